@@ -2,6 +2,7 @@
 ghost use Prim.Native.Nat.{_≤_};
 
 pub mod filling;
+pub mod layer;
 
 #[derive(Drop)]
 pub struct Plan<D> {
