@@ -1,3 +1,4 @@
 pub mod Entries
+pub mod Layers
 pub mod Plans
 pub mod Retries

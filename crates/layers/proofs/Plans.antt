@@ -14,7 +14,9 @@ use Rattle.std.proofs.shelf.Ways.{tells}
 use Rattle.disk.specs.Meaning.{Block, ToCome, failures, dead, none-coming, no-block, block-at, worn, fewer, less, Reads}
 use Rattle.disk.proofs.Meaning.{less-none}
 use Rattle.layers.specs.Entries.{UsedUp}
+use Rattle.layers.specs.Layers.{SameBytes}
 use Rattle.layers.specs.Plans.{added, plan-block, plan-meaning}
+use Rattle.layers.proofs.Layers.{same-bytes}
 
 pub length-plan : (p : ℕ → ToCome) (m : List Block) → length (plan-meaning p m) ≡ length m
 unfolding plan-meaning
@@ -85,3 +87,6 @@ module _ (p p′ : ℕ → ToCome) (m : List Block) (b : ℕ) (h : b < length m)
       let gs = getD-set-same m b (worn k) no-block h in
       let fewer-there : plan-meaning p′ (set m b (worn k)) ≡ set (plan-meaning p m) b (worn (plan-block p m b)) = let a = zero-added (fewer (k .coming)) in plan-set p p′ m (set m b (worn k)) b (worn (plan-block p m b)) h (length-set m b (worn k)) (grind (arith, tells)) (λ y ne. let o = off y ne in let g = getD-set-other m b y (worn k) no-block ne in grind (arith, tells)) in
       record { number = grind (arith, tells); memory = grind (arith, tells); after = grind (arith, tells) }
+
+pub plan-same-bytes : (p : ℕ → ToCome) (m : List Block) → SameBytes m (plan-meaning p m)
+plan-same-bytes p m = same-bytes m (plan-meaning p m) (length-plan p m) (λ y h. ap (λ (k : Block). k .bytes) (getD-plan p m y h))

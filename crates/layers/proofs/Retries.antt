@@ -1,5 +1,5 @@
 -- A block read again and again, and what the layer of a retry makes of it.
-use mathlib.Core.Path.{_≡_, refl, subst}
+use mathlib.Core.Path.{_≡_, refl, ap, subst}
 use mathlib.Core.List.{List, map}
 use Prim.Native.Nat.{ℕ, _+_, _-_, _/_, _<_, _≤_}
 use native.Mathlib.Omega.{arith}
@@ -8,7 +8,9 @@ use lib.ListN.{length, getD, set}
 use Rattle.std.proofs.shelf.Lists.{length-set, length-map, getD-set-same, getD-map, map-set, set-set, set-getD}
 use Rattle.std.proofs.shelf.Ways.{tells}
 use Rattle.disk.specs.Meaning.{Block, ToCome, failures, dead, no-block, block-at, less, Reads}
+use Rattle.layers.specs.Layers.{SameBytes}
 use Rattle.layers.specs.Retries.{retried, retry-meaning}
+use Rattle.layers.proofs.Layers.{same-bytes}
 
 -- c has k failures to use up
 abbrev pub AtLeast : ℕ → ToCome → Type 0
@@ -140,3 +142,6 @@ module _ (m : List Block) (b : ℕ) (h : b < length m) where
 
   pub retry-failed : (t k : ℕ) (mem mem′ : List ℕ) (n : ℕ) (m′ : List Block) → AtLeast k (block-at m b .coming) → k + 1 ≡ t → (n ≡ 0 → ⊥) → length mem ≡ 64 → Reads (failed k m b) b mem n mem′ m′ → Reads (retry-meaning t m) b mem n mem′ (retry-meaning t m′)
   retry-failed t k mem mem′ n m′ = failed-by (block-at m b .coming) t k mem mem′ n m′ refl
+
+pub retry-same-bytes : (t : ℕ) (m : List Block) → SameBytes m (retry-meaning t m)
+retry-same-bytes t m = same-bytes m (retry-meaning t m) (length-retry t m) (λ y h. ap (λ (k : Block). k .bytes) (getD-retry t m y h))

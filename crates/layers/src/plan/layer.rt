@@ -1,13 +1,12 @@
 // The disk that a plan and the disk below make together.
 ghost use mathlib.Core.Path.{_≡_};
-ghost use mathlib.Core.List.{[]};
 ghost use lib.Dec.{ltb};
 ghost use lib.ListN.{length};
-ghost use Rattle.refusal.specs.Told.{answer-number};
 ghost use Rattle.disk.specs.Meaning.{none-coming};
 ghost use Rattle.disk.specs.Origin.{Arose};
 ghost use Rattle.std.specs.Orderings.{When};
-ghost use Rattle.layers.specs.Entries.{listed, planned, add-number, add-after};
+ghost use Rattle.layers.specs.Entries.{listed, planned};
+ghost use Rattle.layers.specs.Layers.{SameBytes};
 ghost use Rattle.layers.specs.Plans.{plan-meaning};
 use crate::plan::Entries;
 use crate::plan::Plan;
@@ -24,6 +23,7 @@ impl<D: Disk> Plan<D> {
     pub fn new(below: D, entries: Entries) -> Plan<D>
         ensures below { λ r. ⌜ r .below ≡ below ⌝ }
         ensures entries { λ r. ⌜ r .entries ≡ entries ⌝ }
+        ensures over { λ r. ⌜ SameBytes (D·Disk .meaning below) (plan-meaning (planned (listed entries)) (D·Disk .meaning below)) ⌝ }
     {
         Plan { below, entries }
     }

@@ -6,6 +6,7 @@ ghost use Rattle.refusal.specs.Told.{refusal-number};
 ghost use Rattle.disk.specs.Origin.{Arose};
 ghost use Rattle.std.specs.Orderings.{When};
 ghost use Rattle.std.specs.Results.{Cases as ByOk};
+ghost use Rattle.layers.specs.Layers.{SameBytes};
 ghost use Rattle.layers.specs.Retries.{TriesFit, retry-meaning};
 use crate::retry::Retry;
 use crate::retry::Tries;
@@ -33,6 +34,7 @@ impl<D: Disk> Retry<D> {
     pub fn new(below: D, tries: Tries) -> Retry<D>
         ensures below { λ r. ⌜ r .below ≡ below ⌝ }
         ensures tries { λ r. ⌜ r .tries ≡ tries ⌝ }
+        ensures over { λ r. ⌜ SameBytes (D·Disk .meaning below) (retry-meaning (tries .count) (D·Disk .meaning below)) ⌝ }
     {
         Retry { below, tries }
     }
