@@ -38,7 +38,7 @@ surveyed-none m us e = record { blocks = ap (map block-of) e; after = refl }
 pub surveyed-length : (i : ℕ) (m : List Block) (us : List Unread) (m′ : List Block) → i ≤ length m → SurveyedTo i m us m′ → length m′ ≡ length m
 surveyed-length i m us m′ h s = ap length (s .after) ∙ simp (length-append, length-map, length-take, length-drop) (omega arith)
 
-counting-more : (a n j : ℕ) → a + n ≡ j → counting a (n + 1) ≡ counting a n ++ j ∷ []
+pub counting-more : (a n j : ℕ) → a + n ≡ j → counting a (n + 1) ≡ counting a n ++ j ∷ []
 counting-more a zero j e = ap (λ x. x ∷ []) (omega arith)
 counting-more a (suc n) j e = let s : suc n + 1 ≡ suc (n + 1) = omega arith in ap (counting a) s ∙ ap (λ xs. a ∷ xs) (counting-more (a + 1) n j (omega arith))
 

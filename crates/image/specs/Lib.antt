@@ -1,3 +1,4 @@
 pub mod Sums
 pub mod Records
 pub mod Images
+pub mod Beds

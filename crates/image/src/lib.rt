@@ -13,6 +13,7 @@ use refusal::Fault;
 use refusal::FaultKind;
 use refusal::Refusal;
 
+pub mod bed;
 pub mod record;
 pub mod sum;
 
