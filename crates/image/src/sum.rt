@@ -2,12 +2,13 @@
 ghost use mathlib.Core.Path.{_≡_};
 ghost use Prim.Native.Nat.{_+_, _*_, _<_};
 ghost use lib.ListN.{length};
-ghost use Rattle.image.specs.Sums.{word-at, carried, sum-to, sum-of};
+ghost use Rattle.image.specs.Sums.{word-at, carried, sum-of, total-of, ones-complement};
 
 // The sum of the bytes as words of 16 bits, the high byte first; a last byte alone has a zero after it.
 pub fn sum(bytes: &[u8]) -> u32
     ensures value { λ r. ⌜ r ≡ sum-of (now (bytes .entry)) ⌝ }
     ensures bound { λ r. ⌜ r < 65536 ⌝ }
+    ensures law { λ r. ⌜ r ≡ ones-complement (total-of (now (bytes .entry))) ⌝ }
 {
     let words = bytes.len() / 2;
     let mut total = 0;

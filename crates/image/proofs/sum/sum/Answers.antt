@@ -1,10 +1,11 @@
-use mathlib.Core.Path.{_≡_}
+use mathlib.Core.Path.{_≡_, _∙_}
 use Prim.Native.Nat.{_+_, _*_, _/_}
 use native.Mathlib.Omega.{arith}
 use lib.ListN.{length}
 use Rattle.std.proofs.shelf.Lists.{getD-past}
 use Rattle.std.proofs.shelf.Ways.{tells}
-use Rattle.image.proofs.Sums.{sum-none, sum-more}
+use Rattle.image.specs.Sums.{sum-of}
+use Rattle.image.proofs.Sums.{sum-none, sum-more, sum-is}
 use Rattle.image.proofs.sum.sum.Needs as need
 
 pub loop-k-holds : need.loop-k-holds
@@ -19,10 +20,12 @@ returns-then-bytes-eq1 c =
     let z = sum-more xs (length xs / 2) in
     let n : (length xs + 1) / 2 ≡ length xs / 2 + 1 = omega arith in
     let past = getD-past xs (2 * (length xs / 2) + 1) 0 (omega arith) in
-    record { value = grind (arith, tells); bound = grind (arith, tells) }
+    let v : c .carry-total-then-bytes-eq1 .result ≡ sum-of xs = grind (arith, tells) in
+    record { value = v; bound = grind (arith, tells); law = v ∙ sum-is xs (λ j. omega (arith, c .typed .bytes (2 * j), c .typed .bytes (2 * j + 1))) _ }
 
 pub returns-else-bytes-eq1 : need.returns-else-bytes-eq1
 returns-else-bytes-eq1 c =
     let xs = c .args .bytes .now in
     let n : (length xs + 1) / 2 ≡ length xs / 2 = omega arith in
-    record { value = grind (arith, tells); bound = omega arith }
+    let v : c .loop-k .total ≡ sum-of xs = grind (arith, tells) in
+    record { value = v; bound = omega arith; law = v ∙ sum-is xs (λ j. omega (arith, c .typed .bytes (2 * j), c .typed .bytes (2 * j + 1))) _ }
