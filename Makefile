@@ -1,5 +1,12 @@
-# make run: the main job on the example; make test: the gate
-.PHONY: test
+# make run: the main job on the example. make test: the gate.
+.PHONY: run test
+
+run: target/bin/bedmake target/bin/bedcheck
+	cd examples && ../target/bin/bedmake < plate.rows && ../target/bin/bedcheck < plate.plan
+
+# A program is proved before it is built.
+target/bin/%: crates.txt $(shell find crates -name '*.rt' -o -name '*.antt')
+	rt check $*
 
 test:
 	rt ci
