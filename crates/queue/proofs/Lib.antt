@@ -2,4 +2,5 @@ pub mod Order
 pub mod Heaps
 pub mod Held
 mod Drained
+mod Sorted
 pub mod Keys
