@@ -1,6 +1,8 @@
 -- What is told of a refusal: its number in the table, and then the values that come with it.
 use mathlib.Core.List.{List, [], _∷_}
 use Prim.Native.Nat.{ℕ}
+use Rattle.std.specs.declared.option.Option.{Option}
+use Rattle.std.specs.declared.option.Option.the-variants.{None, Some}
 use Rattle.std.specs.declared.result.Result.{Result}
 use Rattle.std.specs.declared.result.Result.the-variants.{Ok, Err}
 use Rattle.refusal.specs.declared.Fault.{Fault}
@@ -63,3 +65,28 @@ told r = refusal-number r ∷ refusal-values r
 abbrev pub answer-number : {T : Type 0} → Result T Refusal → ℕ
 answer-number (Ok x) = 0
 answer-number (Err e) = refusal-number e
+
+-- the fault that a refusal comes with, if it is one of a disk's read
+abbrev pub refusal-fault : Refusal → Option Fault
+refusal-fault Bounds = None
+refusal-fault HeadTaken = None
+refusal-fault Past = None
+refusal-fault OffDisk = None
+refusal-fault PoolShort = None
+refusal-fault (Crowded s) = None
+refusal-fault WrongSize = None
+refusal-fault LastSlot = None
+refusal-fault NotThere = None
+refusal-fault LeasesOut = None
+refusal-fault NotHeld = None
+refusal-fault HeadEmpty = None
+refusal-fault (Faulted f) = Some f
+refusal-fault BadImage = None
+refusal-fault BadEntry = None
+refusal-fault (BadCue p) = None
+refusal-fault Full = None
+refusal-fault ShortOutput = None
+
+abbrev pub answer-fault : {T : Type 0} → Result T Refusal → Option Fault
+answer-fault (Ok x) = None
+answer-fault (Err e) = refusal-fault e

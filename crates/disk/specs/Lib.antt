@@ -1,0 +1,4 @@
+pub mod Meaning
+pub mod Origin
+pub mod Strips
+pub mod Surveys
