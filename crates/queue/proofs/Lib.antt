@@ -1,0 +1,4 @@
+pub mod Order
+pub mod Heaps
+pub mod Held
+pub mod Keys
