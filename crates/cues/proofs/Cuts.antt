@@ -24,10 +24,10 @@ module _ (mark : ℕ) (none : List (List ℕ)) where
   cut-more [] h = absurd (omega arith)
   cut-more (c ∷ cs) h = by (eqb c mark) (cut-more cs) h
     where
-    by : (b : Bool) → (length (front mark cs) < length cs → cut mark none cs ≡ front mark cs ∷ cut mark none (drop (suc (length (front mark cs))) cs))
-        → length (cond b [] (c ∷ front mark cs)) < length (c ∷ cs) → cond b ([] ∷ cut mark none cs) (onto c (cut mark none cs)) ≡ cond b [] (c ∷ front mark cs) ∷ cut mark none (drop (suc (length (cond b [] (c ∷ front mark cs)))) (c ∷ cs))
-    by true r h = refl
-    by false r h = ap (onto c) (r (omega arith))
+      by : (b : Bool) → (length (front mark cs) < length cs → cut mark none cs ≡ front mark cs ∷ cut mark none (drop (suc (length (front mark cs))) cs))
+          → length (cond b [] (c ∷ front mark cs)) < length (c ∷ cs) → cond b ([] ∷ cut mark none cs) (onto c (cut mark none cs)) ≡ cond b [] (c ∷ front mark cs) ∷ cut mark none (drop (suc (length (cond b [] (c ∷ front mark cs)))) (c ∷ cs))
+      by true r h = refl
+      by false r h = ap (onto c) (r (omega arith))
 
   -- without the byte there is one part, unless there are no bytes
   pub cut-last : ((c : ℕ) → onto c none ≡ (c ∷ []) ∷ []) → (xs : List ℕ) → 0 < length xs → length xs ≤ length (front mark xs) → cut mark none xs ≡ front mark xs ∷ []
@@ -35,15 +35,15 @@ module _ (mark : ℕ) (none : List (List ℕ)) where
   cut-last one [] s h = absurd (omega arith)
   cut-last one (c ∷ []) s h = by (eqb c mark) h
     where
-    by : (b : Bool) → 1 ≤ length (cond b [] (c ∷ [])) → cond b ([] ∷ none) (onto c none) ≡ cond b [] (c ∷ []) ∷ []
-    by true h = absurd (omega arith)
-    by false h = one c
+      by : (b : Bool) → 1 ≤ length (cond b [] (c ∷ [])) → cond b ([] ∷ none) (onto c none) ≡ cond b [] (c ∷ []) ∷ []
+      by true h = absurd (omega arith)
+      by false h = one c
   cut-last one (c ∷ d ∷ ds) s h = by (eqb c mark) (cut-last one (d ∷ ds) (omega arith)) h
     where
-    by : (b : Bool) → (length (d ∷ ds) ≤ length (front mark (d ∷ ds)) → cut mark none (d ∷ ds) ≡ front mark (d ∷ ds) ∷ [])
-        → length (c ∷ d ∷ ds) ≤ length (cond b [] (c ∷ front mark (d ∷ ds))) → cond b ([] ∷ cut mark none (d ∷ ds)) (onto c (cut mark none (d ∷ ds))) ≡ cond b [] (c ∷ front mark (d ∷ ds)) ∷ []
-    by true r h = absurd (omega arith)
-    by false r h = ap (onto c) (r (omega arith))
+      by : (b : Bool) → (length (d ∷ ds) ≤ length (front mark (d ∷ ds)) → cut mark none (d ∷ ds) ≡ front mark (d ∷ ds) ∷ [])
+          → length (c ∷ d ∷ ds) ≤ length (cond b [] (c ∷ front mark (d ∷ ds))) → cond b ([] ∷ cut mark none (d ∷ ds)) (onto c (cut mark none (d ∷ ds))) ≡ cond b [] (c ∷ front mark (d ∷ ds)) ∷ []
+      by true r h = absurd (omega arith)
+      by false r h = ap (onto c) (r (omega arith))
 
 pub words-last : (xs : List ℕ) → length xs ≤ length (front 32 xs) → words xs ≡ front 32 xs ∷ []
 unfolding cut
@@ -67,15 +67,15 @@ words-step line from end h e =
     let size = length-drop from line in
     ⊎-elim
     (λ (lt : end < length line).
-        let split = cut-more 32 ([] ∷ []) (drop from line) (omega arith) in
-        let at : from + suc (length w) ≡ end + 1 = omega arith in
-        let place : from + length w + 1 ≡ end + 1 = omega arith in
-        let rest = drop-drop (suc (length w)) from line ∙ ap (λ (k : ℕ). drop k line) at in
-        ap (placed from) split ∙ (λ i. first ∷ placed (place i) (words (rest i)))
-        ∙ ap (λ (l : List Placed). first ∷ l) (sym (ap (words-from line) (cond-true _ _ _ (lt-ltb end (length line) lt)))))
+    let split = cut-more 32 ([] ∷ []) (drop from line) (omega arith) in
+    let at : from + suc (length w) ≡ end + 1 = omega arith in
+    let place : from + length w + 1 ≡ end + 1 = omega arith in
+    let rest = drop-drop (suc (length w)) from line ∙ ap (λ (k : ℕ). drop k line) at in
+    ap (placed from) split ∙ (λ i. first ∷ placed (place i) (words (rest i)))
+    ∙ ap (λ (l : List Placed). first ∷ l) (sym (ap (words-from line) (cond-true _ _ _ (lt-ltb end (length line) lt)))))
     (λ (ge : length line ≤ end).
-        ap (placed from) (words-last (drop from line) (omega arith))
-        ∙ ap (λ (l : List Placed). first ∷ l) (sym (ap (words-from line) (cond-false _ _ _ (le-ltb end (length line) ge)))))
+    ap (placed from) (words-last (drop from line) (omega arith))
+    ∙ ap (λ (l : List Placed). first ∷ l) (sym (ap (words-from line) (cond-false _ _ _ (le-ltb end (length line) ge)))))
     (cases-lt end (length line))
 
 -- the token that begins the words from `from` on, or the place of the fault

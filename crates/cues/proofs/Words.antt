@@ -30,9 +30,9 @@ pub front-is : (mark : ℕ) (xs : List ℕ) → front mark xs ≡ take (length (
 front-is mark [] = refl
 front-is mark (x ∷ xs) = front-at (eqb x mark) x (front mark xs) xs (front-is mark xs)
   where
-  front-at : (b : Bool) (x : ℕ) (w xs : List ℕ) → w ≡ take (length w) xs → cond b [] (x ∷ w) ≡ take (length (cond b [] (x ∷ w))) (x ∷ xs)
-  front-at true x w xs e = refl
-  front-at false x w xs e = ap (λ (l : List ℕ). x ∷ l) e
+    front-at : (b : Bool) (x : ℕ) (w xs : List ℕ) → w ≡ take (length w) xs → cond b [] (x ∷ w) ≡ take (length (cond b [] (x ∷ w))) (x ∷ xs)
+    front-at true x w xs e = refl
+    front-at false x w xs e = ap (λ (l : List ℕ). x ∷ l) e
 
 digit-test : (w : List ℕ) (i : ℕ) → allDigits w ≡ true → i < length w → asciiDigit (getD w i 0) ≡ true
 digit-test [] i e h = absurd (omega arith)

@@ -1,5 +1,6 @@
 // Cues: what an operator asks of a bench ahead of time, one to a line of a cue list.
 pub mod reading;
+pub mod text;
 pub mod token;
 
 // What a line says. Its numbers stand as they were written: a call whose numbers are outside their limits is refused
@@ -7,15 +8,9 @@ pub mod token;
 #[derive(Clone, Copy)]
 pub enum Cue {
     // `p B C`: the reads of block B fail C times, or always where C is 0.
-    Plan {
-        block: u32,
-        count: u32,
-    },
+    Plan { block: u32, count: u32 },
     // `S ..`: a call at slot S, at most 1,000,000.
-    At {
-        slot: u32,
-        call: Call,
-    },
+    At { slot: u32, call: Call },
 }
 
 #[derive(Clone, Copy)]

@@ -48,7 +48,11 @@ fn token_of<'a>(word: &'a [u8], place: usize) -> Option<Token<'a>>
     }
     if word.len() == 1 && word[0].is_ascii_alphabetic() {
         let letter = char::from(word[0]);
-        return Some(Token::Letter { word, place, letter });
+        return Some(Token::Letter {
+            word,
+            place,
+            letter,
+        });
     }
     None
 }

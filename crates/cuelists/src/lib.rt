@@ -1,0 +1,3 @@
+// Cue lists: the lines that an operator writes for a job, read into the entries of a plan and a queue of calls.
+pub mod due;
+pub mod list;
