@@ -16,7 +16,7 @@ use Rattle.cuelists.specs.declared.due.Due.{Due}
 
 same-call : (a b : Call) → call-keys a ≡ call-keys b → a ≡ b
 same-call (Order h f n s p b k) (Order h′ f′ n′ s′ p′ b′ k′) e = cc
-same-call (Order h f n s p b k) (Take h′ i q) e = let z : 111 ≡ 116 = cc in absurd (omega arith)
+same-call (Order h f n s p b k) (Take h′ i q) e = cc
 same-call (Order h f n s p b k) (Give q l) e = cc
 same-call (Order h f n s p b k) (Close h′) e = cc
 same-call (Take h i q) (Order h′ f′ n′ s′ p′ b′ k′) e = cc

@@ -1,1 +1,2 @@
 pub mod Dues
+pub mod Took

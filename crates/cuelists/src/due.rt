@@ -45,7 +45,7 @@ fn call_precedes(call: &Call, other: &Call) -> bool
     false
 }
 
-// What tells calls apart: the letter's code, and the numbers.
+// What tells calls apart: a number for the kind, and their numbers.
 fn keys(call: &Call) -> [u32; 8]
     ensures { λ r. ⌜ r ≡ call-keys (now (call .entry)) ⌝ }
 {
@@ -59,10 +59,10 @@ fn keys(call: &Call) -> [u32; 8]
             depth,
             spare,
         } => [
-            111, *head, *first, *count, *start, *period, *depth, *spare,
+            0, *head, *first, *count, *start, *period, *depth, *spare,
         ],
-        Call::Take { head, block, party } => [116, *head, *block, *party, 0, 0, 0, 0],
-        Call::Give { party, lease } => [103, *party, *lease, 0, 0, 0, 0, 0],
-        Call::Close { head } => [99, *head, 0, 0, 0, 0, 0, 0],
+        Call::Take { head, block, party } => [1, *head, *block, *party, 0, 0, 0, 0],
+        Call::Give { party, lease } => [2, *party, *lease, 0, 0, 0, 0, 0],
+        Call::Close { head } => [3, *head, 0, 0, 0, 0, 0, 0],
     }
 }
