@@ -81,3 +81,13 @@ list-read room es cs input =
 -- r, the entries and the calls after one line are those of `step`; the queue holds its calls in any order
 abbrev pub Took : Sofar → Result Sofar ListFault → Result Bool ListFault → List Entry → List Due → Type 0
 Took s step r es cs = Cases step (λ t. (r ≡ Ok (t .begun)) × (es ≡ t .entries) × Shuffled (t .calls) cs) (λ f. (r ≡ Err f) × (es ≡ s .entries) × (cs ≡ s .calls))
+
+abbrev pub fault-of : Result (Unit {0}) ListFault → Option ListFault
+fault-of (Ok x) = None
+fault-of (Err f) = Some f
+
+-- the answer, the entries and the calls after a list; the queue holds the calls in any order
+pub record Reads (o : Outcome) (r : Result (Unit {0}) ListFault) (es : List Entry) (cs : List Due) : Type 0 where
+  pub answer : fault-of r ≡ o .first-fault
+  pub entries : es ≡ o .left .entries
+  pub calls : Shuffled (o .left .calls) cs

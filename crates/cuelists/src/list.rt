@@ -12,7 +12,7 @@ ghost use Rattle.layers.specs.Entries.{listed, add-number, add-after};
 ghost use Rattle.queue.specs.Held.{held, room, Sound};
 ghost use Rattle.cues.specs.Forms.{line-cue};
 ghost use Rattle.cuelists.specs.Dues.{due-before};
-ghost use Rattle.cuelists.specs.Lists.{reason-number, fault, most, sofar, cue-read, Took};
+ghost use Rattle.cuelists.specs.Lists.{reason-number, fault, most, sofar, cue-read, list-read, Took, Reads};
 ghost use Rattle.cuelists.specs.declared.list.Reason.the-variants.{BadEntry, Full};
 use crate::due::Due;
 use crate::due::DueOrdered;
@@ -20,6 +20,7 @@ use crate::due::DueTotal;
 use cues::Call;
 use cues::Cue;
 use cues::reading::read_cue;
+use cues::token::line_at;
 use layers::plan::Entries;
 use queue::Queue;
 
@@ -54,6 +55,35 @@ impl ListFault {
             Reason::Full => 18,
         }
     }
+}
+
+// Reads a list into a plan's entries and a queue, up to its first fault, which is the answer; what the lines before it
+// said stays.
+pub fn read_list(input: &[u8], entries: &mut Entries, queue: &mut Queue<Due>) -> Result<(), ListFault>
+    ensures reads { λ r. ⌜ Reads (list-read (room (now (queue .entry))) (listed (now (entries .entry))) (held (now (queue .entry))) (now (input .entry))) r (listed (now (entries .exit))) (held (now (queue .exit))) ⌝ }
+    ensures room { λ _. ⌜ room (now (queue .exit)) ≡ room (now (queue .entry)) ⌝ }
+    ensures sound { λ _. ⌜ (Sound due-before (now (queue .entry)) → Sound due-before (now (queue .exit))) ⌝ }
+{
+    if input.len() > MOST_BYTES {
+        return Err(ListFault {
+            reason: Reason::Full,
+            line: 0,
+            place: 0,
+        });
+    }
+    let mut at = 0;
+    let mut line = 1;
+    let mut begun = false;
+    while at < input.len() {
+        let text = line_at(input, at);
+        match read_line(text, line, begun, entries, queue) {
+            Err(fault) => return Err(fault),
+            Ok(came) => begun = came,
+        }
+        at = at + text.len() + 1;
+        line += 1;
+    }
+    Ok(())
 }
 
 // Reads one line, number `line` of the list, and answers whether a call has come.

@@ -8,13 +8,13 @@ use native.Mathlib.Omega.{arith}
 use lib.Dec.{eqb, ltb}
 use lib.ListN.{length, drop, length-drop}
 use Rattle.std.proofs.shelf.Tests.{cond-true, cond-false, lt-ltb, le-ltb, cases-lt}
-use Rattle.std.proofs.shelf.Lists.{drop-drop, nil-from-length}
+use Rattle.std.proofs.shelf.Lists.{drop-drop, drop-all}
 use Rattle.std.specs.declared.option.Option.{Option}
 use Rattle.std.specs.declared.option.Option.the-variants.{Some}
 use Rattle.std.specs.declared.result.Result.the-variants.{Ok, Err}
 use Rattle.cues.specs.Tokens.{token-word, Tells, word-at, Reads}
 use Rattle.cues.specs.declared.token.Token.{Token}
-use Rattle.cues.specs.Words.{onto, cut, words, front}
+use Rattle.cues.specs.Words.{onto, cut, lines, words, front}
 use Rattle.cues.specs.Forms.{placed, Placed}
 use Rattle.cues.specs.Reading.{words-from, place-after, Next}
 
@@ -91,3 +91,18 @@ module _ (line : List ℕ) (from : ℕ) where
       let first = front-first (drop from line) in
       let split = ap (words-from line) p ∙ ap (placed from) (first .1) in
       subst (λ ws. Next ws (length line) (Err place) others) (sym split) r
+
+-- the lines from `at` on, the first of them apart
+pub lines-step : (input : List ℕ) (at : ℕ) → at < length input → lines (drop at input) ≡ front 10 (drop at input) ∷ lines (drop (at + length (front 10 (drop at input)) + 1) input)
+unfolding cut
+lines-step input at h =
+    let rest = drop at input in
+    let l = front 10 rest in
+    let size = length-drop at input in
+    ⊎-elim
+    (λ (lt : length l < length rest).
+        let next : at + suc (length l) ≡ at + length l + 1 = omega arith in
+        cut-more 10 [] rest lt ∙ ap (λ (xs : List ℕ). l ∷ lines xs) (drop-drop (suc (length l)) at input ∙ ap (λ (k : ℕ). drop k input) next))
+    (λ (ge : length rest ≤ length l).
+        cut-last 10 [] (λ c. refl) rest (omega arith) ge ∙ ap (λ (xs : List ℕ). l ∷ lines xs) (sym (drop-all (at + length l + 1) input (omega arith))))
+    (cases-lt (length l) (length rest))

@@ -64,3 +64,11 @@ module _ (w : List ℕ) (no-number : is-number w ≡ false) where
 
   pub neither-letter : asciiLetter (getD w 0 0) ≡ false → word-of w ≡ neither
   neither-letter h = cond-false _ _ _ no-number ∙ cond-false _ _ _ (and-right (eqb (length w) 1) _ h)
+
+pub length-front : (mark : ℕ) (xs : List ℕ) → length (front mark xs) ≤ length xs
+length-front mark [] = omega arith
+length-front mark (x ∷ xs) = by (eqb x mark) (length-front mark xs)
+  where
+  by : (b : Bool) → length (front mark xs) ≤ length xs → length (cond b [] (x ∷ front mark xs)) ≤ suc (length xs)
+  by true h = omega arith
+  by false h = omega arith

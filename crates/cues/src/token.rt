@@ -39,6 +39,17 @@ pub fn token_at<'a>(line: &'a [u8], from: usize) -> Result<Token<'a>, usize>
     }
 }
 
+// The line of a list that begins at `from`, without the byte that ends it.
+pub fn line_at(input: &[u8], from: usize) -> &[u8]
+    ensures { λ r. ⌜ now r ≡ front 10 (drop from (now (input .entry))) ⌝ }
+{
+    if from > input.len() {
+        return &input[0..0];
+    }
+    let end = end_of(input, from, b'\n');
+    &input[from..end]
+}
+
 // What a word says, where it is a number or a letter.
 fn token_of<'a>(word: &'a [u8], place: usize) -> Option<Token<'a>>
     ensures { λ r. ⌜ BySome r (word-of (now (word .entry)) ≡ neither) (λ token. Tells place (now (word .entry)) token) ⌝ }
