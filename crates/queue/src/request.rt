@@ -1,6 +1,4 @@
 // A read that a tick may make, in the order in which the tick chooses: by deadline, then the lower head.
-ghost use mathlib.Core.Path.{_≡_};
-ghost use mathlib.Core.List.{[], _∷_};
 ghost use Rattle.queue.specs.Keys.{by-keys};
 ghost use Rattle.queue.specs.Requests.{request-keys};
 use super::Ordered;
