@@ -43,11 +43,10 @@ pub record Sofar : Type 0 where
 abbrev pub sofar : List Entry → List Due → Bool → Sofar
 sofar es cs b = record { entries = es; calls = cs; begun = b }
 
--- entries come before calls, and are added to the plan
+-- an entry is added to the plan
 abbrev pub plan-read : ℕ → ℕ → ℕ → Sofar → Result Sofar ListFault
 plan-read line block count s =
-    cond (s .begun) (Err (fault BadCue line 0))
-    (cond (eqb (add-number (s .entries) block count) 0) (Ok (sofar (add-after (s .entries) block count) (s .calls) false)) (Err (fault BadEntry line 0)))
+    cond (eqb (add-number (s .entries) block count) 0) (Ok (sofar (add-after (s .entries) block count) (s .calls) false)) (Err (fault BadEntry line 0))
 
 -- a call waits with its line, where there is room
 abbrev pub call-read : ℕ → Due → Sofar → Result Sofar ListFault
@@ -70,7 +69,7 @@ go-on s (Err f) next = record { left = s; first-fault = Some f }
 -- lines from number `line` on
 unfoldable pub lines-read : ℕ → ℕ → Sofar → List (List ℕ) → Outcome
 lines-read room line s [] = record { left = s; first-fault = None }
-lines-read room line s (l ∷ ls) = go-on s (cue-read room line (line-cue l) s) (λ t. lines-read room (suc line) t ls)
+lines-read room line s (l ∷ ls) = go-on s (cue-read room line (line-cue (s .begun) l) s) (λ t. lines-read room (suc line) t ls)
 
 -- a list read into a plan with the entries es and a queue with the calls cs and room for as many in all
 abbrev pub list-read : ℕ → List Entry → List Due → List ℕ → Outcome

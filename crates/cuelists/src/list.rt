@@ -88,27 +88,18 @@ pub fn read_list(input: &[u8], entries: &mut Entries, queue: &mut Queue<Due>) ->
 
 // Reads one line, number `line` of the list, and answers whether a call has come.
 fn read_line(text: &[u8], line: usize, begun: bool, entries: &mut Entries, queue: &mut Queue<Due>) -> Result<bool, ListFault>
-    ensures took { λ r. ⌜ Took (sofar (listed (now (entries .entry))) (held (now (queue .entry))) begun) (cue-read (most (room (now (queue .entry)))) line (line-cue (now (text .entry))) (sofar (listed (now (entries .entry))) (held (now (queue .entry))) begun)) r (listed (now (entries .exit))) (held (now (queue .exit))) ⌝ }
+    ensures took { λ r. ⌜ Took (sofar (listed (now (entries .entry))) (held (now (queue .entry))) begun) (cue-read (most (room (now (queue .entry)))) line (line-cue begun (now (text .entry))) (sofar (listed (now (entries .entry))) (held (now (queue .entry))) begun)) r (listed (now (entries .exit))) (held (now (queue .exit))) ⌝ }
     ensures room { λ _. ⌜ room (now (queue .exit)) ≡ room (now (queue .entry)) ⌝ }
     ensures sound { λ _. ⌜ (Sound due-before (now (queue .entry)) → Sound due-before (now (queue .exit))) ⌝ }
 {
-    match read_cue(text) {
+    match read_cue(text, begun) {
         Err(place) => Err(ListFault {
             reason: Reason::BadCue,
             line,
             place,
         }),
         Ok(cue) => match cue {
-            Cue::Plan { block, count } => {
-                if begun {
-                    return Err(ListFault {
-                        reason: Reason::BadCue,
-                        line,
-                        place: 0,
-                    });
-                }
-                plan(block, count, line, entries)
-            }
+            Cue::Plan { block, count } => plan(block, count, line, entries),
             Cue::At { slot, call } => put(Due { slot, line, call }, queue),
         },
     }

@@ -1,6 +1,6 @@
 -- The line of a cue reads as the cue.
 use mathlib.Core.Path.{_≡_, refl, sym, ap, _∙_}
-use mathlib.Core.Bool.{true, false, cond}
+use mathlib.Core.Bool.{Bool, true, false, cond}
 use mathlib.Core.Logic.{_⊎_, inl, inr, ⊎-elim}
 use mathlib.Core.List.{List, [], _∷_, _++_, map}
 use Prim.Native.Nat.{ℕ, suc, _+_, _-_, _*_, _^_, _≤_, _<_}
@@ -86,26 +86,27 @@ numbers-decimal (n ∷ ns) end at a =
     ∙ ap (then-number (number n) at) (numbers-decimal ns end (at + length (decimal n) + 1) (a .1))
 
 -- a line of words that have no space is read by its form
-line-form : (w : List ℕ) (ws : List (List ℕ)) → Unspaced w → All Unspaced ws → line-cue (spaced (w ∷ ws)) ≡ form (length (spaced (w ∷ ws))) (placed 0 (w ∷ ws))
-line-form w ws u us = ap (λ (l : List (List ℕ)). form (length (spaced (w ∷ ws))) (placed 0 l)) (words-spaced w ws u us)
+line-form : (begun : Bool) (w : List ℕ) (ws : List (List ℕ)) → Unspaced w → All Unspaced ws → line-cue begun (spaced (w ∷ ws)) ≡ form (length (spaced (w ∷ ws))) begun (placed 0 (w ∷ ws))
+line-form begun w ws u us = ap (λ (l : List (List ℕ)). form (length (spaced (w ∷ ws))) begun (placed 0 l)) (words-spaced w ws u us)
 
 -- a call's line, once its letter is seen to ask for the numbers that it has
-call-line : (s c : ℕ) (ns : List ℕ) (f : List ℕ → Cue) → s ≤ 1000000 → All (λ n. n ≤ 9999999) ns → eqb c 32 ≡ false
+call-line : (begun : Bool) (s c : ℕ) (ns : List ℕ) (f : List ℕ → Cue) → s ≤ 1000000 → All (λ n. n ≤ 9999999) ns → eqb c 32 ≡ false
     → ((end at : ℕ) (ws : List Placed) → after-slot end s (record { place = at; bytes = c ∷ [] } ∷ ws) ≡ made-cue f (numbers (length ns) end ws))
-    → line-cue (spaced (decimal s ∷ (c ∷ []) ∷ map decimal ns)) ≡ Ok (f ns)
-call-line s c ns f b a u asks =
+    → line-cue begun (spaced (decimal s ∷ (c ∷ []) ∷ map decimal ns)) ≡ Ok (f ns)
+call-line begun s c ns f b a u asks =
     let end = length (spaced (decimal s ∷ (c ∷ []) ∷ map decimal ns)) in
     let at = 0 + length (decimal s) + 1 in
-    line-form (decimal s) ((c ∷ []) ∷ map decimal ns) (unspaced-decimal s (omega arith)) ((u, tt), unspaced-all ns a)
-    ∙ ap (λ (w : Word). cue-form end w 0 (placed at ((c ∷ []) ∷ map decimal ns))) (word-decimal s (omega arith))
+    line-form begun (decimal s) ((c ∷ []) ∷ map decimal ns) (unspaced-decimal s (omega arith)) ((u, tt), unspaced-all ns a)
+    ∙ ap (λ (w : Word). cue-form end begun w 0 (placed at ((c ∷ []) ∷ map decimal ns))) (word-decimal s (omega arith))
     ∙ cond-true _ _ _ (le-leb s 1000000 b) ∙ asks end at (placed (at + 1 + 1) (map decimal ns))
     ∙ ap (made-cue f) (numbers-decimal ns end (at + 1 + 1) a)
 
-pub reads-back : (cue : Cue) → Writable cue → line-cue (cue-line cue) ≡ Ok cue
-reads-back (Plan block count) h =
-    line-form (112 ∷ []) (map decimal (block ∷ count ∷ [])) (refl, tt) (unspaced-all (block ∷ count ∷ []) h)
-    ∙ ap (made-cue plan) (numbers-decimal (block ∷ count ∷ []) (length (cue-line (Plan block count))) 2 h)
-reads-back (At slot (Order head first count start period depth spare)) h = call-line slot 111 (head ∷ first ∷ count ∷ start ∷ period ∷ depth ∷ spare ∷ []) (order slot) (h .0) (h .1) refl (λ end at ws. refl)
-reads-back (At slot (Take head block party)) h = call-line slot 116 (head ∷ block ∷ party ∷ []) (take-block slot) (h .0) (h .1) refl (λ end at ws. refl)
-reads-back (At slot (Give party lease)) h = call-line slot 103 (party ∷ lease ∷ []) (give slot) (h .0) (h .1) refl (λ end at ws. refl)
-reads-back (At slot (Close head)) h = call-line slot 99 (head ∷ []) (close slot) (h .0) (h .1) refl (λ end at ws. refl)
+pub reads-back : (cue : Cue) (begun : Bool) → Writable begun cue → line-cue begun (cue-line cue) ≡ Ok cue
+reads-back (Plan block count) begun h =
+    ap (λ (b : Bool). line-cue b (cue-line (Plan block count))) (h .0)
+    ∙ line-form false (112 ∷ []) (map decimal (block ∷ count ∷ [])) (refl, tt) (unspaced-all (block ∷ count ∷ []) (h .1))
+    ∙ ap (made-cue plan) (numbers-decimal (block ∷ count ∷ []) (length (cue-line (Plan block count))) 2 (h .1))
+reads-back (At slot (Order head first count start period depth spare)) begun h = call-line begun slot 111 (head ∷ first ∷ count ∷ start ∷ period ∷ depth ∷ spare ∷ []) (order slot) (h .0) (h .1) refl (λ end at ws. refl)
+reads-back (At slot (Take head block party)) begun h = call-line begun slot 116 (head ∷ block ∷ party ∷ []) (take-block slot) (h .0) (h .1) refl (λ end at ws. refl)
+reads-back (At slot (Give party lease)) begun h = call-line begun slot 103 (party ∷ lease ∷ []) (give slot) (h .0) (h .1) refl (λ end at ws. refl)
+reads-back (At slot (Close head)) begun h = call-line begun slot 99 (head ∷ []) (close slot) (h .0) (h .1) refl (λ end at ws. refl)
