@@ -50,4 +50,3 @@ module _ (xs ys : List ℕ) (i : ℕ) (h : i < length xs) (k : i < length ys) wh
 
   pub lex-differ : (getD xs i 0 ≡ getD ys i 0 → ⊥) → lex (drop i xs) (drop i ys) ≡ ltb (getD xs i 0) (getD ys i 0)
   lex-differ n = step ∙ cond-false _ _ _ (ne-eqb (getD xs i 0) (getD ys i 0) n)
-

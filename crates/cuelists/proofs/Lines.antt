@@ -44,24 +44,27 @@ unfolding lines-read
 same-lines room line es cs ds b [] h = record { faults = refl; entries = refl; calls = h }
 same-lines room line es cs ds b (l ∷ ls) h = by (line-cue b l) (λ es cs ds b k. same-lines room (suc line) es cs ds b ls k)
   where
-  next : Sofar → Outcome
-  next t = lines-read room (suc line) t ls
-  by-plan : (t : Bool) (more : List Entry) → (Same (next (sofar more cs false)) (next (sofar more ds false)))
-      → Same (go-on (sofar es cs b) (cond t (Ok (sofar more cs false)) (Err (fault BadEntry line 0))) next) (go-on (sofar es ds b) (cond t (Ok (sofar more ds false)) (Err (fault BadEntry line 0))) next)
-  by-plan true more k = k
-  by-plan false more k = stopped es cs ds b (fault BadEntry line 0) h
-  by-call : (t : Bool) (due : Due) → Same (next (sofar es (due ∷ cs) true)) (next (sofar es (due ∷ ds) true))
-      → Same (go-on (sofar es cs b) (cond t (Ok (sofar es (due ∷ cs) true)) (Err (fault Full line 0))) next) (go-on (sofar es ds b) (cond t (Ok (sofar es (due ∷ ds) true)) (Err (fault Full line 0))) next)
-  by-call true due k = k
-  by-call false due k = stopped es cs ds b (fault Full line 0) h
-  by : (said : Result Cue ℕ) → ((es : List Entry) (cs ds : List Due) (b : Bool) → Shuffled cs ds → Same (next (sofar es cs b)) (next (sofar es ds b)))
-      → Same (go-on (sofar es cs b) (cue-read room line said (sofar es cs b)) next) (go-on (sofar es ds b) (cue-read room line said (sofar es ds b)) next)
-  by (Err place) k = stopped es cs ds b (fault BadCue line place) h
-  by (Ok (Plan block count)) k = by-plan (eqb (add-number es block count) 0) (add-after es block count) (k (add-after es block count) cs ds false h)
-  by (Ok (At slot call)) k =
-      let due : Due = record { slot = slot; line = line; call = call } in
-      subst (λ (n : ℕ). Same (go-on (sofar es cs b) (call-read room due (sofar es cs b)) next) (go-on (sofar es ds b) (cond (ltb n room) (Ok (sofar es (due ∷ ds) true)) (Err (fault Full line 0))) next)) (sym (length-shuffled cs ds h))
-      (by-call (ltb (length cs) room) due (k es (due ∷ cs) (due ∷ ds) true (shuffled-cons due cs ds h)))
+    next : Sofar → Outcome
+    next t = lines-read room (suc line) t ls
+
+    by-plan : (t : Bool) (more : List Entry) → (Same (next (sofar more cs false)) (next (sofar more ds false)))
+        → Same (go-on (sofar es cs b) (cond t (Ok (sofar more cs false)) (Err (fault BadEntry line 0))) next) (go-on (sofar es ds b) (cond t (Ok (sofar more ds false)) (Err (fault BadEntry line 0))) next)
+    by-plan true more k = k
+    by-plan false more k = stopped es cs ds b (fault BadEntry line 0) h
+
+    by-call : (t : Bool) (due : Due) → Same (next (sofar es (due ∷ cs) true)) (next (sofar es (due ∷ ds) true))
+        → Same (go-on (sofar es cs b) (cond t (Ok (sofar es (due ∷ cs) true)) (Err (fault Full line 0))) next) (go-on (sofar es ds b) (cond t (Ok (sofar es (due ∷ ds) true)) (Err (fault Full line 0))) next)
+    by-call true due k = k
+    by-call false due k = stopped es cs ds b (fault Full line 0) h
+
+    by : (said : Result Cue ℕ) → ((es : List Entry) (cs ds : List Due) (b : Bool) → Shuffled cs ds → Same (next (sofar es cs b)) (next (sofar es ds b)))
+        → Same (go-on (sofar es cs b) (cue-read room line said (sofar es cs b)) next) (go-on (sofar es ds b) (cue-read room line said (sofar es ds b)) next)
+    by (Err place) k = stopped es cs ds b (fault BadCue line place) h
+    by (Ok (Plan block count)) k = by-plan (eqb (add-number es block count) 0) (add-after es block count) (k (add-after es block count) cs ds false h)
+    by (Ok (At slot call)) k =
+        let due : Due = record { slot = slot; line = line; call = call } in
+        subst (λ (n : ℕ). Same (go-on (sofar es cs b) (call-read room due (sofar es cs b)) next) (go-on (sofar es ds b) (cond (ltb n room) (Ok (sofar es (due ∷ ds) true)) (Err (fault Full line 0))) next)) (sym (length-shuffled cs ds h))
+        (by-call (ltb (length cs) room) due (k es (due ∷ cs) (due ∷ ds) true (shuffled-cons due cs ds h)))
 
 module _ (s : Sofar) (r : Result Bool ListFault) (es : List Entry) (cs : List Due) where
   taken : (room line : ℕ) (ls : List (List ℕ)) (step : Result Sofar ListFault) (b : Bool) → Took s step r es cs → r ≡ Ok b → Same (go-on s step (λ t. lines-read room line t ls)) (lines-read room line (sofar es cs b) ls)

@@ -58,9 +58,7 @@ fn keys(call: &Call) -> [u32; 8]
             period,
             depth,
             spare,
-        } => [
-            0, *head, *first, *count, *start, *period, *depth, *spare,
-        ],
+        } => [0, *head, *first, *count, *start, *period, *depth, *spare],
         Call::Take { head, block, party } => [1, *head, *block, *party, 0, 0, 0, 0],
         Call::Give { party, lease } => [2, *party, *lease, 0, 0, 0, 0, 0],
         Call::Close { head } => [3, *head, 0, 0, 0, 0, 0, 0],

@@ -12,6 +12,7 @@ ghost use Rattle.layers.specs.Entries.{listed, add-number, add-after};
 ghost use Rattle.queue.specs.Held.{held, room, Sound};
 ghost use Rattle.cues.specs.Forms.{line-cue};
 ghost use Rattle.cuelists.specs.Dues.{due-before};
+ghost use Rattle.cuelists.specs.Laws.{WellFormedListsAreRead};
 ghost use Rattle.cuelists.specs.Lists.{reason-number, fault, most, sofar, cue-read, list-read, Took, Reads};
 ghost use Rattle.cuelists.specs.declared.list.Reason.the-variants.{BadEntry, Full};
 use crate::due::Due;
@@ -26,6 +27,7 @@ use queue::Queue;
 
 // A list has at most so many calls, and at most so many bytes.
 pub const MOST_CALLS: usize = 512;
+
 pub const MOST_BYTES: usize = 65_536;
 
 // Why a list was not read to its end, and where: the line, from 1, and the byte of the line, from 0, at which the wrong
@@ -58,11 +60,16 @@ impl ListFault {
 }
 
 // Reads a list into a plan's entries and a queue, up to its first fault, which is the answer; what the lines before it
-// said stays.
-pub fn read_list(input: &[u8], entries: &mut Entries, queue: &mut Queue<Due>) -> Result<(), ListFault>
+// said stays. A list of well-formed lines in the right order and number has no fault.
+pub fn read_list(
+    input: &[u8],
+    entries: &mut Entries,
+    queue: &mut Queue<Due>,
+) -> Result<(), ListFault>
     ensures reads { λ r. ⌜ Reads (list-read (room (now (queue .entry))) (listed (now (entries .entry))) (held (now (queue .entry))) (now (input .entry))) r (listed (now (entries .exit))) (held (now (queue .exit))) ⌝ }
     ensures room { λ _. ⌜ room (now (queue .exit)) ≡ room (now (queue .entry)) ⌝ }
     ensures sound { λ _. ⌜ (Sound due-before (now (queue .entry)) → Sound due-before (now (queue .exit))) ⌝ }
+    ensures always { λ _. ⌜ WellFormedListsAreRead ⌝ }
 {
     if input.len() > MOST_BYTES {
         return Err(ListFault {
@@ -87,7 +94,13 @@ pub fn read_list(input: &[u8], entries: &mut Entries, queue: &mut Queue<Due>) ->
 }
 
 // Reads one line, number `line` of the list, and answers whether a call has come.
-fn read_line(text: &[u8], line: usize, begun: bool, entries: &mut Entries, queue: &mut Queue<Due>) -> Result<bool, ListFault>
+fn read_line(
+    text: &[u8],
+    line: usize,
+    begun: bool,
+    entries: &mut Entries,
+    queue: &mut Queue<Due>,
+) -> Result<bool, ListFault>
     ensures took { λ r. ⌜ Took (sofar (listed (now (entries .entry))) (held (now (queue .entry))) begun) (cue-read (most (room (now (queue .entry)))) line (line-cue begun (now (text .entry))) (sofar (listed (now (entries .entry))) (held (now (queue .entry))) begun)) r (listed (now (entries .exit))) (held (now (queue .exit))) ⌝ }
     ensures room { λ _. ⌜ room (now (queue .exit)) ≡ room (now (queue .entry)) ⌝ }
     ensures sound { λ _. ⌜ (Sound due-before (now (queue .entry)) → Sound due-before (now (queue .exit))) ⌝ }

@@ -101,8 +101,8 @@ lines-step input at h =
     let size = length-drop at input in
     ⊎-elim
     (λ (lt : length l < length rest).
-        let next : at + suc (length l) ≡ at + length l + 1 = omega arith in
-        cut-more 10 [] rest lt ∙ ap (λ (xs : List ℕ). l ∷ lines xs) (drop-drop (suc (length l)) at input ∙ ap (λ (k : ℕ). drop k input) next))
+    let next : at + suc (length l) ≡ at + length l + 1 = omega arith in
+    cut-more 10 [] rest lt ∙ ap (λ (xs : List ℕ). l ∷ lines xs) (drop-drop (suc (length l)) at input ∙ ap (λ (k : ℕ). drop k input) next))
     (λ (ge : length rest ≤ length l).
-        cut-last 10 [] (λ c. refl) rest (omega arith) ge ∙ ap (λ (xs : List ℕ). l ∷ lines xs) (sym (drop-all (at + length l + 1) input (omega arith))))
+    cut-last 10 [] (λ c. refl) rest (omega arith) ge ∙ ap (λ (xs : List ℕ). l ∷ lines xs) (sym (drop-all (at + length l + 1) input (omega arith))))
     (cases-lt (length l) (length rest))

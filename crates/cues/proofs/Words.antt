@@ -69,6 +69,6 @@ pub length-front : (mark : ℕ) (xs : List ℕ) → length (front mark xs) ≤ l
 length-front mark [] = omega arith
 length-front mark (x ∷ xs) = by (eqb x mark) (length-front mark xs)
   where
-  by : (b : Bool) → length (front mark xs) ≤ length xs → length (cond b [] (x ∷ front mark xs)) ≤ suc (length xs)
-  by true h = omega arith
-  by false h = omega arith
+    by : (b : Bool) → length (front mark xs) ≤ length xs → length (cond b [] (x ∷ front mark xs)) ≤ suc (length xs)
+    by true h = omega arith
+    by false h = omega arith

@@ -17,7 +17,7 @@ Inv-loop-at l =
     × (room (l .queue) ≡ room (l .entry .queue))
     × (Sound due-before (l .entry .queue) → Sound due-before (l .queue))
     × Same (lines-read (most (room (l .entry .queue))) 1 (sofar (listed (l .entry .entries)) (held (l .entry .queue)) false) (lines (l .input)))
-        (lines-read (most (room (l .entry .queue))) (l .line) (sofar (listed (l .entries)) (held (l .queue)) (l .begun)) (lines (drop (l .«at») (l .input))))
+    (lines-read (most (room (l .entry .queue))) (l .line) (sofar (listed (l .entries)) (held (l .queue)) (l .begun)) (lines (drop (l .«at») (l .input))))
 
 abbrev pub μ-loop-at : given.MeasureT-loop-at
 μ-loop-at l = length (l .input) + 1 - l .«at»
