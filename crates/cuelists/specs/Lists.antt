@@ -27,6 +27,15 @@ reason-number BadEntry = 16
 reason-number BadCue = 17
 reason-number Full = 18
 
+-- what is told of a fault as a refusal: its number, and for a bad cue its line and place
+abbrev pub reason-told : Reason → ℕ → ℕ → List ℕ
+reason-told BadEntry line place = 16 ∷ []
+reason-told BadCue line place = 17 ∷ line ∷ place ∷ []
+reason-told Full line place = 18 ∷ []
+
+abbrev pub fault-told : ListFault → List ℕ
+fault-told f = reason-told (f .reason) (f .line) (f .place)
+
 abbrev pub fault : Reason → ℕ → ℕ → ListFault
 fault why line place = record { reason = why; line = line; place = place }
 

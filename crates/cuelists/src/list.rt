@@ -8,12 +8,13 @@ ghost use lib.ListN.{length};
 ghost use Rattle.std.specs.Results.{Cases as ByOk};
 ghost use Rattle.std.specs.Slices.{Shuffled};
 ghost use Rattle.std.specs.declared.result.Result.the-variants.{Ok, Err};
+ghost use Rattle.refusal.specs.Told.{told};
 ghost use Rattle.layers.specs.Entries.{listed, add-number, add-after};
 ghost use Rattle.queue.specs.Held.{held, room, Sound};
 ghost use Rattle.cues.specs.Forms.{line-cue};
 ghost use Rattle.cuelists.specs.Dues.{due-before};
 ghost use Rattle.cuelists.specs.Laws.{WellFormedListsAreRead};
-ghost use Rattle.cuelists.specs.Lists.{reason-number, fault, most, sofar, cue-read, list-read, Took, Reads};
+ghost use Rattle.cuelists.specs.Lists.{reason-number, fault-told, fault, most, sofar, cue-read, list-read, Took, Reads};
 ghost use Rattle.cuelists.specs.declared.list.Reason.the-variants.{BadEntry, Full};
 use crate::due::Due;
 use crate::due::DueOrdered;
@@ -24,6 +25,8 @@ use cues::reading::read_cue;
 use cues::token::line_at;
 use layers::plan::Entries;
 use queue::Queue;
+use refusal::Place;
+use refusal::Refusal;
 
 // A list has at most so many calls, and at most so many bytes.
 pub const MOST_CALLS: usize = 512;
@@ -55,6 +58,20 @@ impl ListFault {
             Reason::BadEntry => 16,
             Reason::BadCue => 17,
             Reason::Full => 18,
+        }
+    }
+
+    // The fault as a refusal; a bad cue's tells where.
+    pub fn refusal(&self) -> Refusal
+        ensures { λ r. ⌜ told r ≡ fault-told (now (self .entry)) ⌝ }
+    {
+        match self.reason {
+            Reason::BadEntry => Refusal::BadEntry,
+            Reason::BadCue => Refusal::BadCue(Place {
+                line: self.line,
+                byte: self.place,
+            }),
+            Reason::Full => Refusal::Full,
         }
     }
 }
