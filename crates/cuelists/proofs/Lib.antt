@@ -2,3 +2,4 @@ pub mod Dues
 pub mod Took
 pub mod Lines
 pub mod Checks
+pub mod Laws

@@ -42,7 +42,7 @@ stopped es cs ds b f h = record { faults = refl; entries = refl; calls = h }
 pub same-lines : (room line : ℕ) (es : List Entry) (cs ds : List Due) (b : Bool) (ls : List (List ℕ)) → Shuffled cs ds → Same (lines-read room line (sofar es cs b) ls) (lines-read room line (sofar es ds b) ls)
 unfolding lines-read
 same-lines room line es cs ds b [] h = record { faults = refl; entries = refl; calls = h }
-same-lines room line es cs ds b (l ∷ ls) h = by (line-cue l) (λ es cs ds b k. same-lines room (suc line) es cs ds b ls k)
+same-lines room line es cs ds b (l ∷ ls) h = by (line-cue b l) (λ es cs ds b k. same-lines room (suc line) es cs ds b ls k)
   where
     next : Sofar → Outcome
     next t = lines-read room (suc line) t ls
@@ -52,12 +52,6 @@ same-lines room line es cs ds b (l ∷ ls) h = by (line-cue l) (λ es cs ds b k.
     by-plan true more k = k
     by-plan false more k = stopped es cs ds b (fault BadEntry line 0) h
 
-    by-begun : (x : Bool) (block count : ℕ) → ((more : List Entry) → Same (next (sofar more cs false)) (next (sofar more ds false)))
-        → Same (go-on (sofar es cs b) (cond x (Err (fault BadCue line 0)) (cond (eqb (add-number es block count) 0) (Ok (sofar (add-after es block count) cs false)) (Err (fault BadEntry line 0)))) next)
-        (go-on (sofar es ds b) (cond x (Err (fault BadCue line 0)) (cond (eqb (add-number es block count) 0) (Ok (sofar (add-after es block count) ds false)) (Err (fault BadEntry line 0)))) next)
-    by-begun true block count k = stopped es cs ds b (fault BadCue line 0) h
-    by-begun false block count k = by-plan (eqb (add-number es block count) 0) (add-after es block count) (k (add-after es block count))
-
     by-call : (t : Bool) (due : Due) → Same (next (sofar es (due ∷ cs) true)) (next (sofar es (due ∷ ds) true))
         → Same (go-on (sofar es cs b) (cond t (Ok (sofar es (due ∷ cs) true)) (Err (fault Full line 0))) next) (go-on (sofar es ds b) (cond t (Ok (sofar es (due ∷ ds) true)) (Err (fault Full line 0))) next)
     by-call true due k = k
@@ -66,7 +60,7 @@ same-lines room line es cs ds b (l ∷ ls) h = by (line-cue l) (λ es cs ds b k.
     by : (said : Result Cue ℕ) → ((es : List Entry) (cs ds : List Due) (b : Bool) → Shuffled cs ds → Same (next (sofar es cs b)) (next (sofar es ds b)))
         → Same (go-on (sofar es cs b) (cue-read room line said (sofar es cs b)) next) (go-on (sofar es ds b) (cue-read room line said (sofar es ds b)) next)
     by (Err place) k = stopped es cs ds b (fault BadCue line place) h
-    by (Ok (Plan block count)) k = by-begun b block count (λ more. k more cs ds false h)
+    by (Ok (Plan block count)) k = by-plan (eqb (add-number es block count) 0) (add-after es block count) (k (add-after es block count) cs ds false h)
     by (Ok (At slot call)) k =
         let due : Due = record { slot = slot; line = line; call = call } in
         subst (λ (n : ℕ). Same (go-on (sofar es cs b) (call-read room due (sofar es cs b)) next) (go-on (sofar es ds b) (cond (ltb n room) (Ok (sofar es (due ∷ ds) true)) (Err (fault Full line 0))) next)) (sym (length-shuffled cs ds h))
@@ -86,16 +80,16 @@ module _ (s : Sofar) (r : Result Bool ListFault) (es : List Entry) (cs : List Du
       let same : g ≡ f = cc in
       record { faults = ap (λ (x : ListFault). Some x) same; entries = sym (h .1); calls = subst (Shuffled (s .calls)) (sym (h .2)) (shuffled-refl (s .calls)) }
 
-module _ (room line : ℕ) (s : Sofar) (l : List ℕ) (ls : List (List ℕ)) (r : Result Bool ListFault) (es : List Entry) (cs : List Due) (took : Took s (cue-read room line (line-cue l) s) r es cs) where
+module _ (room line : ℕ) (s : Sofar) (l : List ℕ) (ls : List (List ℕ)) (r : Result Bool ListFault) (es : List Entry) (cs : List Due) (took : Took s (cue-read room line (line-cue (s .begun) l) s) r es cs) where
   -- a line that was taken in
   pub line-taken : (b : Bool) → r ≡ Ok b → Same (lines-read room line s (l ∷ ls)) (lines-read room (line + 1) (sofar es cs b) ls)
   unfolding lines-read
-  line-taken b e = subst (λ (n : ℕ). Same (go-on s (cue-read room line (line-cue l) s) (λ t. lines-read room (suc line) t ls)) (lines-read room n (sofar es cs b) ls)) (sym (add-one line)) (taken s r es cs room (suc line) ls (cue-read room line (line-cue l) s) b took e)
+  line-taken b e = subst (λ (n : ℕ). Same (go-on s (cue-read room line (line-cue (s .begun) l) s) (λ t. lines-read room (suc line) t ls)) (lines-read room n (sofar es cs b) ls)) (sym (add-one line)) (taken s r es cs room (suc line) ls (cue-read room line (line-cue (s .begun) l) s) b took e)
 
   -- a line that was not
   pub line-refused : (f : ListFault) → r ≡ Err f → Same (lines-read room line s (l ∷ ls)) (record { left = sofar es cs (s .begun); first-fault = Some f })
   unfolding lines-read
-  line-refused f e = refused s r es cs (λ t. lines-read room (suc line) t ls) (cue-read room line (line-cue l) s) f took e
+  line-refused f e = refused s r es cs (λ t. lines-read room (suc line) t ls) (cue-read room line (line-cue (s .begun) l) s) f took e
 
 pub lines-none : (room line : ℕ) (s : Sofar) → lines-read room line s [] ≡ record { left = s; first-fault = None }
 unfolding lines-read
@@ -107,13 +101,13 @@ reads-from o p r es cs same f e c = record { answer = f ∙ sym (same .faults); 
 
 -- one turn of the loop: the line `text` of the input from `at` on, with `start` the outcome of the whole list
 module _ (start : Outcome) (room now line : ℕ) (s : Sofar) (input text : List ℕ) (at : ℕ) (r : Result Bool ListFault) (es : List Entry) (cs : List Due)
-    (same-room : now ≡ room) (h : at < length input) (is : text ≡ front 10 (drop at input)) (took : Took s (cue-read now line (line-cue text) s) r es cs)
+    (same-room : now ≡ room) (h : at < length input) (is : text ≡ front 10 (drop at input)) (took : Took s (cue-read now line (line-cue (s .begun) text) s) r es cs)
     (so-far : Same start (lines-read room line s (lines (drop at input)))) where
   split : lines (drop at input) ≡ text ∷ lines (drop (at + length text + 1) input)
   split = lines-step input at h ∙ sym (λ j. is j ∷ lines (drop (at + length (is j) + 1) input))
 
-  here : Took s (cue-read room line (line-cue text) s) r es cs
-  here = subst (λ (n : ℕ). Took s (cue-read n line (line-cue text) s) r es cs) same-room took
+  here : Took s (cue-read room line (line-cue (s .begun) text) s) r es cs
+  here = subst (λ (n : ℕ). Took s (cue-read n line (line-cue (s .begun) text) s) r es cs) same-room took
 
   from : Same start (lines-read room line s (text ∷ lines (drop (at + length text + 1) input)))
   from = subst (λ (ls : List (List ℕ)). Same start (lines-read room line s ls)) split so-far

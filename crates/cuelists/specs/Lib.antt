@@ -1,3 +1,4 @@
 pub mod Dues
 pub mod Lists
+pub mod Laws
 pub mod Checks

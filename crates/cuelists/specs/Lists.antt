@@ -27,6 +27,15 @@ reason-number BadEntry = 16
 reason-number BadCue = 17
 reason-number Full = 18
 
+-- what is told of a fault as a refusal: its number, and for a bad cue its line and place
+abbrev pub reason-told : Reason → ℕ → ℕ → List ℕ
+reason-told BadEntry line place = 16 ∷ []
+reason-told BadCue line place = 17 ∷ line ∷ place ∷ []
+reason-told Full line place = 18 ∷ []
+
+abbrev pub fault-told : ListFault → List ℕ
+fault-told f = reason-told (f .reason) (f .line) (f .place)
+
 abbrev pub fault : Reason → ℕ → ℕ → ListFault
 fault why line place = record { reason = why; line = line; place = place }
 
@@ -43,11 +52,10 @@ pub record Sofar : Type 0 where
 abbrev pub sofar : List Entry → List Due → Bool → Sofar
 sofar es cs b = record { entries = es; calls = cs; begun = b }
 
--- entries come before calls, and are added to the plan
+-- an entry is added to the plan
 abbrev pub plan-read : ℕ → ℕ → ℕ → Sofar → Result Sofar ListFault
 plan-read line block count s =
-    cond (s .begun) (Err (fault BadCue line 0))
-    (cond (eqb (add-number (s .entries) block count) 0) (Ok (sofar (add-after (s .entries) block count) (s .calls) false)) (Err (fault BadEntry line 0)))
+    cond (eqb (add-number (s .entries) block count) 0) (Ok (sofar (add-after (s .entries) block count) (s .calls) false)) (Err (fault BadEntry line 0))
 
 -- a call waits with its line, where there is room
 abbrev pub call-read : ℕ → Due → Sofar → Result Sofar ListFault
@@ -70,7 +78,7 @@ go-on s (Err f) next = record { left = s; first-fault = Some f }
 -- lines from number `line` on
 unfoldable pub lines-read : ℕ → ℕ → Sofar → List (List ℕ) → Outcome
 lines-read room line s [] = record { left = s; first-fault = None }
-lines-read room line s (l ∷ ls) = go-on s (cue-read room line (line-cue l) s) (λ t. lines-read room (suc line) t ls)
+lines-read room line s (l ∷ ls) = go-on s (cue-read room line (line-cue (s .begun) l) s) (λ t. lines-read room (suc line) t ls)
 
 -- a list read into a plan with the entries es and a queue with the calls cs and room for as many in all
 abbrev pub list-read : ℕ → List Entry → List Due → List ℕ → Outcome

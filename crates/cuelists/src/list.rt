@@ -8,11 +8,13 @@ ghost use lib.ListN.{length};
 ghost use Rattle.std.specs.Results.{Cases as ByOk};
 ghost use Rattle.std.specs.Slices.{Shuffled};
 ghost use Rattle.std.specs.declared.result.Result.the-variants.{Ok, Err};
+ghost use Rattle.refusal.specs.Told.{told};
 ghost use Rattle.layers.specs.Entries.{listed, add-number, add-after};
 ghost use Rattle.queue.specs.Held.{held, room, Sound};
 ghost use Rattle.cues.specs.Forms.{line-cue};
 ghost use Rattle.cuelists.specs.Dues.{due-before};
-ghost use Rattle.cuelists.specs.Lists.{reason-number, fault, most, sofar, cue-read, list-read, Took, Reads};
+ghost use Rattle.cuelists.specs.Laws.{WellFormedListsAreRead};
+ghost use Rattle.cuelists.specs.Lists.{reason-number, fault-told, fault, most, sofar, cue-read, list-read, Took, Reads};
 ghost use Rattle.cuelists.specs.declared.list.Reason.the-variants.{BadEntry, Full};
 use crate::due::Due;
 use crate::due::DueOrdered;
@@ -23,6 +25,8 @@ use cues::reading::read_cue;
 use cues::token::line_at;
 use layers::plan::Entries;
 use queue::Queue;
+use refusal::Place;
+use refusal::Refusal;
 
 // A list has at most so many calls, and at most so many bytes.
 pub const MOST_CALLS: usize = 512;
@@ -56,10 +60,24 @@ impl ListFault {
             Reason::Full => 18,
         }
     }
+
+    // The fault as a refusal; a bad cue's tells where.
+    pub fn refusal(&self) -> Refusal
+        ensures { λ r. ⌜ told r ≡ fault-told (now (self .entry)) ⌝ }
+    {
+        match self.reason {
+            Reason::BadEntry => Refusal::BadEntry,
+            Reason::BadCue => Refusal::BadCue(Place {
+                line: self.line,
+                byte: self.place,
+            }),
+            Reason::Full => Refusal::Full,
+        }
+    }
 }
 
 // Reads a list into a plan's entries and a queue, up to its first fault, which is the answer; what the lines before it
-// said stays.
+// said stays. A list of well-formed lines in the right order and number has no fault.
 pub fn read_list(
     input: &[u8],
     entries: &mut Entries,
@@ -68,6 +86,7 @@ pub fn read_list(
     ensures reads { λ r. ⌜ Reads (list-read (room (now (queue .entry))) (listed (now (entries .entry))) (held (now (queue .entry))) (now (input .entry))) r (listed (now (entries .exit))) (held (now (queue .exit))) ⌝ }
     ensures room { λ _. ⌜ room (now (queue .exit)) ≡ room (now (queue .entry)) ⌝ }
     ensures sound { λ _. ⌜ (Sound due-before (now (queue .entry)) → Sound due-before (now (queue .exit))) ⌝ }
+    ensures always { λ _. ⌜ WellFormedListsAreRead ⌝ }
 {
     if input.len() > MOST_BYTES {
         return Err(ListFault {
@@ -99,27 +118,18 @@ fn read_line(
     entries: &mut Entries,
     queue: &mut Queue<Due>,
 ) -> Result<bool, ListFault>
-    ensures took { λ r. ⌜ Took (sofar (listed (now (entries .entry))) (held (now (queue .entry))) begun) (cue-read (most (room (now (queue .entry)))) line (line-cue (now (text .entry))) (sofar (listed (now (entries .entry))) (held (now (queue .entry))) begun)) r (listed (now (entries .exit))) (held (now (queue .exit))) ⌝ }
+    ensures took { λ r. ⌜ Took (sofar (listed (now (entries .entry))) (held (now (queue .entry))) begun) (cue-read (most (room (now (queue .entry)))) line (line-cue begun (now (text .entry))) (sofar (listed (now (entries .entry))) (held (now (queue .entry))) begun)) r (listed (now (entries .exit))) (held (now (queue .exit))) ⌝ }
     ensures room { λ _. ⌜ room (now (queue .exit)) ≡ room (now (queue .entry)) ⌝ }
     ensures sound { λ _. ⌜ (Sound due-before (now (queue .entry)) → Sound due-before (now (queue .exit))) ⌝ }
 {
-    match read_cue(text) {
+    match read_cue(text, begun) {
         Err(place) => Err(ListFault {
             reason: Reason::BadCue,
             line,
             place,
         }),
         Ok(cue) => match cue {
-            Cue::Plan { block, count } => {
-                if begun {
-                    return Err(ListFault {
-                        reason: Reason::BadCue,
-                        line,
-                        place: 0,
-                    });
-                }
-                plan(block, count, line, entries)
-            }
+            Cue::Plan { block, count } => plan(block, count, line, entries),
             Cue::At { slot, call } => put(Due { slot, line, call }, queue),
         },
     }

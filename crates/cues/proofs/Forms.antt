@@ -1,5 +1,6 @@
 -- Numbers, one word after another.
 use mathlib.Core.Path.{_≡_, refl, sym, ap, subst, _∙_}
+use mathlib.Core.Bool.{Bool, true, false}
 use mathlib.Core.List.{List, [], _∷_, _++_, append-assoc, append-nil}
 use Prim.Native.Nat.{ℕ, zero, suc, _+_, _-_, _<_, _≤_}
 use native.Mathlib.Omega.{arith}
@@ -84,12 +85,16 @@ module _ (end : ℕ) (others : List Placed) (token : Token) where
   after-slot-letter (w ∷ ws) s c h e =
       ap (λ (x : Word). call-form end s x (w .place) ws) (h .0 .says ∙ e) ∙ (λ j. letter-form end (Some s) c (sym (h .0 .place) j) (sym (h .1) j))
 
-  pub form-letter : (ws : List Placed) (c : ℕ) → Next ws end (Ok token) others → token-says token ≡ letter c → form end ws ≡ letter-form end None c (token-place token) others
+  pub form-letter : (ws : List Placed) (c : ℕ) → Next ws end (Ok token) others → token-says token ≡ letter c → form end false ws ≡ letter-form end None c (token-place token) others
   form-letter [] c h e = absurd h
   form-letter (w ∷ ws) c h e =
-      ap (λ (x : Word). cue-form end x (w .place) ws) (h .0 .says ∙ e) ∙ (λ j. letter-form end None c (sym (h .0 .place) j) (sym (h .1) j))
+      ap (λ (x : Word). cue-form end false x (w .place) ws) (h .0 .says ∙ e) ∙ (λ j. letter-form end None c (sym (h .0 .place) j) (sym (h .1) j))
 
-  pub form-slot : (ws : List Placed) (s : ℕ) → Next ws end (Ok token) others → token-says token ≡ number s → s ≤ 1000000 → form end ws ≡ after-slot end s others
-  form-slot [] s h e b = absurd h
-  form-slot (w ∷ ws) s h e b =
-      ap (λ (x : Word). cue-form end x (w .place) ws) (h .0 .says ∙ e) ∙ cond-true _ _ _ (le-leb s 1000000 b) ∙ ap (after-slot end s) (sym (h .1))
+  pub form-begun : (ws : List Placed) (c : ℕ) → Next ws end (Ok token) others → token-says token ≡ letter c → form end true ws ≡ Err (token-place token)
+  form-begun [] c h e = absurd h
+  form-begun (w ∷ ws) c h e = ap (λ (x : Word). cue-form end true x (w .place) ws) (h .0 .says ∙ e) ∙ ap (λ (p : ℕ). Err p) (sym (h .0 .place))
+
+  pub form-slot : (begun : Bool) (ws : List Placed) (s : ℕ) → Next ws end (Ok token) others → token-says token ≡ number s → s ≤ 1000000 → form end begun ws ≡ after-slot end s others
+  form-slot begun [] s h e b = absurd h
+  form-slot begun (w ∷ ws) s h e b =
+      ap (λ (x : Word). cue-form end begun x (w .place) ws) (h .0 .says ∙ e) ∙ cond-true _ _ _ (le-leb s 1000000 b) ∙ ap (after-slot end s) (sym (h .1))

@@ -77,16 +77,16 @@ abbrev pub after-slot : ℕ → ℕ → List Placed → Result Cue ℕ
 after-slot end s [] = Err end
 after-slot end s (w ∷ ws) = call-form end s (word-of (w .bytes)) (w .place) ws
 
--- a line begins with a letter, p, or with a slot, which is at most 1,000,000
-abbrev pub cue-form : ℕ → Word → ℕ → List Placed → Result Cue ℕ
-cue-form end (letter c) at ws = letter-form end None c at ws
-cue-form end (number s) at ws = cond (leb s 1000000) (after-slot end s ws) (Err at)
-cue-form end neither at ws = Err at
+-- a line begins with a letter, p, unless a call came before it; or with a slot, which is at most 1,000,000
+abbrev pub cue-form : ℕ → Bool → Word → ℕ → List Placed → Result Cue ℕ
+cue-form end begun (letter c) at ws = cond begun (Err at) (letter-form end None c at ws)
+cue-form end begun (number s) at ws = cond (leb s 1000000) (after-slot end s ws) (Err at)
+cue-form end begun neither at ws = Err at
 
-abbrev pub form : ℕ → List Placed → Result Cue ℕ
-form end [] = Err end
-form end (w ∷ ws) = cue-form end (word-of (w .bytes)) (w .place) ws
+abbrev pub form : ℕ → Bool → List Placed → Result Cue ℕ
+form end begun [] = Err end
+form end begun (w ∷ ws) = cue-form end begun (word-of (w .bytes)) (w .place) ws
 
--- what a line says, or the place of its first wrong word
-abbrev pub line-cue : List ℕ → Result Cue ℕ
-line-cue line = form (length line) (placed 0 (words line))
+-- what a line says, where `begun` tells whether a call came before it; or the place of its first wrong word
+abbrev pub line-cue : Bool → List ℕ → Result Cue ℕ
+line-cue begun line = form (length line) begun (placed 0 (words line))

@@ -1,4 +1,6 @@
 -- A cue as a line: its words with one space between them, a number by its decimal digits.
+use mathlib.Core.Path.{_≡_}
+use mathlib.Core.Bool.{Bool, false}
 use mathlib.Core.List.{List, [], _∷_, _++_, map}
 use Prim.Native.Nat.{ℕ, _≤_}
 use Rattle.std.specs.shelf.Lists.{All}
@@ -33,7 +35,8 @@ cue-words (At slot call) = decimal slot ∷ (call-letter call ∷ []) ∷ map de
 abbrev pub cue-line : Cue → List ℕ
 cue-line cue = spaced (cue-words cue)
 
--- each number has at most 7 digits, and a slot is at most 1,000,000
-abbrev pub Writable : Cue → Type 0
-Writable (Plan block count) = All (λ n. n ≤ 9999999) (block ∷ count ∷ [])
-Writable (At slot call) = (slot ≤ 1000000) × All (λ n. n ≤ 9999999) (call-numbers call)
+-- a cue that a line may say: its numbers have at most 7 digits, and its slot is at most 1,000,000; no plan once a call
+-- has come
+abbrev pub Writable : Bool → Cue → Type 0
+Writable begun (Plan block count) = (begun ≡ false) × All (λ n. n ≤ 9999999) (block ∷ count ∷ [])
+Writable begun (At slot call) = (slot ≤ 1000000) × All (λ n. n ≤ 9999999) (call-numbers call)

@@ -15,15 +15,21 @@ use crate::token::token_at;
 // The last slot of a job.
 const LAST_SLOT: u32 = 1_000_000;
 
-// Reads a line as a cue, or answers the place of its first wrong word: the line's length where a word is missing.
-pub fn read_cue(line: &[u8]) -> Result<Cue, usize>
-    ensures { λ r. ⌜ r ≡ line-cue (now (line .entry)) ⌝ }
+// Reads a line as a cue, or answers the place of its first wrong word: the line's length where a word is missing. Once
+// a call has come before it, `begun`, no line may plan a failure any more.
+pub fn read_cue(line: &[u8], begun: bool) -> Result<Cue, usize>
+    ensures { λ r. ⌜ r ≡ line-cue begun (now (line .entry)) ⌝ }
 {
     let mut words = Words { line, at: Some(0) };
     match words.next() {
         Err(place) => Err(place),
         Ok(token) => match token {
-            Token::Letter { letter, place, .. } => words.cue(None, letter, place),
+            Token::Letter { letter, place, .. } => {
+                if begun {
+                    return Err(place);
+                }
+                words.cue(None, letter, place)
+            }
             Token::Number { value, place, .. } => {
                 if value > LAST_SLOT {
                     return Err(place);

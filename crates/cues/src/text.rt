@@ -1,5 +1,6 @@
 // A cue as its line, without the line's end.
 ghost use mathlib.Core.Path.{_≡_};
+ghost use mathlib.Core.Bool.{Bool};
 ghost use Rattle.std.specs.declared.option.Option.the-variants.{Some};
 ghost use Rattle.std.specs.declared.result.Result.the-variants.{Ok};
 ghost use Rattle.std.specs.Of.String.{string-bytes};
@@ -13,10 +14,10 @@ use std::alloc::Global;
 use std::fmt;
 
 impl Cue {
-    // The cue as its line, which reads as this cue again where its numbers can stand in a line.
+    // The cue as its line, which reads as this cue again where it may stand.
     pub fn to_line(&self, heap: Global) -> Result<String, AllocError>
         ensures value { λ r. ⌜ made r (λ text. string-bytes text ≡ cue-line (now (self .entry))) ⌝ }
-        ensures reads { λ _. ⌜ (Writable (now (self .entry)) → line-cue (cue-line (now (self .entry))) ≡ Ok (now (self .entry))) ⌝ }
+        ensures reads { λ _. ⌜ ((begun : Bool) → Writable begun (now (self .entry)) → line-cue begun (cue-line (now (self .entry))) ≡ Ok (now (self .entry))) ⌝ }
     {
         format!(heap, "{self}")
     }

@@ -13,11 +13,14 @@ use Rattle.loglines.specs.Text.{spaced}
 pub length-digit : (n : ℕ) → n < 10 → length (decimal n) ≡ 1
 length-digit n h = ap length (decimal-digit n h)
 
-pub length-step : (n : ℕ) → 10 ≤ n → n < 2 ^ 32 → length (decimal n) ≡ length (decimal (n / 10)) + 1
-length-step n h f = ap length (decimal-step n h (omega arith)) ∙ length-push (decimal (n / 10)) (48 + n % 10)
+pub length-step : (n : ℕ) → 10 ≤ n → n < 2 ^ 64 → length (decimal n) ≡ length (decimal (n / 10)) + 1
+length-step n h f = ap length (decimal-step n h f) ∙ length-push (decimal (n / 10)) (48 + n % 10)
 
 pub length-u32 : (n : ℕ) → n < 2 ^ 32 → length (decimal n) ≤ 10
 length-u32 n h = length-decimal-le 10 n (lit< tt) (omega arith) (omega arith)
+
+pub length-u64 : (n : ℕ) → n < 2 ^ 64 → length (decimal n) ≤ 20
+length-u64 n h = length-decimal-le 20 n (lit< tt) (omega arith) h
 
 pub length-u8 : (n : ℕ) → n < 2 ^ 8 → length (decimal n) ≤ 3
 length-u8 n h = length-decimal-le 3 n (lit< tt) (omega arith) (omega arith)

@@ -1,6 +1,6 @@
 // The log of a job: each kind of line as a value, and its text written into the caller's memory.
 ghost use mathlib.Core.Path.{_≡_};
-ghost use mathlib.Core.List.{_∷_, []};
+ghost use mathlib.Core.List.{_∷_, [], _++_};
 ghost use mathlib.Core.Bool.{cond};
 ghost use Prim.Native.Nat.{ℕ, _+_, _*_, _≤_, _<_};
 ghost use lib.Dec.{ltb};
@@ -74,8 +74,8 @@ pub enum LogLine {
     // The first fault of a cue list: the refusal's number, the line and the place.
     BadList {
         number: u8,
-        line: u32,
-        place: u32,
+        line: usize,
+        place: usize,
     },
 }
 
@@ -160,12 +160,22 @@ impl LogLine {
                 number,
                 line,
                 place,
-            } => {
-                let at = write_number(out, 0, *number as u32);
-                write_numbers(out, at, &[*line, *place])
-            }
+            } => write_fault(out, *number, *line, *place),
         }
     }
+}
+
+// Writes the number, line and place of a fault.
+fn write_fault(out: &mut [u8], number: u8, line: usize, place: usize) -> usize
+    requires { ⌜ 64 ≤ length (now out) ⌝ }
+    ensures wrote { λ r. ⌜ Wrote (now (out .entry)) 0 (decimal number ++ spaced (line ∷ place ∷ [])) r (now (out .exit)) ⌝ }
+    ensures short { λ r. ⌜ r < 64 ⌝ }
+{
+    let at = write_number(out, 0, number as u64);
+    out[at] = b' ';
+    let after = write_number(out, at + 1, line as u64);
+    out[after] = b' ';
+    write_number(out, after + 1, place as u64)
 }
 
 // Writes an order's head and answer from `at` on.
@@ -214,7 +224,7 @@ fn write_opening(out: &mut [u8], slot: u32, letter: u8) -> usize
     ensures wrote { λ r. ⌜ Wrote (now (out .entry)) 0 (opening slot letter) r (now (out .exit)) ⌝ }
     ensures short { λ r. ⌜ r ≤ 12 ⌝ }
 {
-    let at = write_number(out, 0, slot);
+    let at = write_number(out, 0, slot as u64);
     out[at] = b' ';
     out[at + 1] = letter;
     at + 2
@@ -229,16 +239,15 @@ fn write_numbers(out: &mut [u8], at: usize, numbers: &[u32]) -> usize
     let mut end = at;
     for number in numbers {
         out[end] = b' ';
-        end = write_number(out, end + 1, *number);
+        end = write_number(out, end + 1, *number as u64);
     }
     end
 }
 
 // Writes the digits of a number at `at`, and answers where they end.
-fn write_number(out: &mut [u8], at: usize, number: u32) -> usize
-    requires { ⌜ at + 10 ≤ length (now out) ⌝ }
-    ensures wrote { λ r. ⌜ Wrote (now (out .entry)) at (decimal number) r (now (out .exit)) ⌝ }
-    ensures short { λ r. ⌜ r ≤ at + 10 ⌝ }
+fn write_number(out: &mut [u8], at: usize, number: u64) -> usize
+    requires { ⌜ at + length (decimal number) ≤ length (now out) ⌝ }
+    ensures { λ r. ⌜ Wrote (now (out .entry)) at (decimal number) r (now (out .exit)) ⌝ }
 {
     if number < 10 {
         out[at] = b'0' + number as u8;

@@ -3,11 +3,14 @@ use mathlib.Core.Bool.{false}
 use native.Mathlib.Omega.{arith}
 use lib.ListN.{length}
 use Rattle.std.specs.declared.result.Result.the-variants.{Ok, Err}
-use Rattle.std.proofs.shelf.Tests.{cond-false, le-ltb}
+use Rattle.std.proofs.shelf.Tests.{cond-true, cond-false, lt-ltb, le-ltb}
+use Rattle.std.specs.Slices.{Shuffled}
+use Rattle.std.proofs.shelf.Sorted.{shuffled-refl}
 use Rattle.layers.specs.Entries.{listed}
 use Rattle.queue.specs.Held.{held, room}
 use Rattle.cues.specs.Words.{lines}
 use Rattle.cuelists.specs.Lists.{sofar, most, lines-read, Reads, Outcome}
+use Rattle.cuelists.proofs.Laws.{well-formed-lists-are-read}
 use Rattle.cuelists.proofs.Lines.{turn-within, turn-taken, turn-refused, turn-none}
 use Rattle.cuelists.proofs.list.read_list.Needs as need
 
@@ -33,6 +36,7 @@ returns-in-Err c =
       reads = subst (λ (o : Outcome). Reads o (Err (c .in-Err .fault)) (listed (c .read-line .last .entries)) (held (c .read-line .last .queue))) (sym short) refused;
       room = told .room ∙ l .inv .2;
       sound = λ sound. told .sound (l .inv .3 sound);
+      always = well-formed-lists-are-read;
     }
 
 pub returns : need.returns
@@ -45,4 +49,15 @@ returns c =
       reads = subst (λ (o : Outcome). Reads o (Ok tt) (listed (l .entries)) (held (l .queue))) (sym short) read;
       room = l .inv .2;
       sound = l .inv .3;
+      always = well-formed-lists-are-read;
+    }
+
+pub returns-then-input-gt-MOST-BYTES : need.returns-then-input-gt-MOST-BYTES
+returns-then-input-gt-MOST-BYTES c =
+    let long = cond-true _ _ _ (lt-ltb 65536 (length (c .args .input .now)) (c .if-input-gt-MOST-BYTES .taken)) in
+    record {
+      reads = record { answer = ap (λ (o : Outcome). o .first-fault) (sym long); entries = ap (λ (o : Outcome). o .left .entries) (sym long); calls = subst (λ (o : Outcome). Shuffled (o .left .calls) (held (c .args .queue .now))) (sym long) (shuffled-refl (held (c .args .queue .now))) };
+      room = refl;
+      sound = λ sound. sound;
+      always = well-formed-lists-are-read;
     }

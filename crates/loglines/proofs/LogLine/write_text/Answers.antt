@@ -49,4 +49,4 @@ returns-in-Done c =
     record { wrote = both-parts (c .args .self .now) (ap log-text (c .in-Done .is)) word (c .write-numbers-in-Done .ensures .wrote); short = omega arith }
 
 pub returns-in-BadList : need.returns-in-BadList
-returns-in-BadList c = record { wrote = both-parts (c .args .self .now) (ap log-text (c .in-BadList .is)) (c .write-number-at .ensures .wrote) (c .write-numbers-in-BadList .ensures .wrote); short = omega arith }
+returns-in-BadList c = record { wrote = wrote-same (sym (ap log-text (c .in-BadList .is))) (c .write-fault .ensures .wrote); short = c .write-fault .ensures .short }
