@@ -1,2 +1,5 @@
 pub mod Orders
 pub mod Answers
+pub mod Rests
+pub mod Choice
+pub mod Replay

@@ -4,6 +4,10 @@ ghost use mathlib.Core.Path.{_≡_};
 ghost use Rattle.schedule.specs.Answers.{BoundsExactlyOutsideLimits, FirstOverfullOrNone, NoneExactlyWhenAssigned};
 ghost use Rattle.schedule.specs.Orders.{WithinLimits, Proper, deadline, release, charged};
 ghost use Rattle.std.specs.Orderings.{Decides};
+
+mod replay;
+mod rest;
+
 use refusal::Refusal;
 use refusal::Span;
 
