@@ -8,3 +8,5 @@ pub mod Queue
 pub mod Going
 pub mod Choosing
 pub mod Turns
+pub mod Cutting
+pub mod Scanning

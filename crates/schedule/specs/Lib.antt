@@ -3,3 +3,4 @@ pub mod Answers
 pub mod Rests
 pub mod Choice
 pub mod Replay
+pub mod Scan

@@ -7,6 +7,7 @@ ghost use Rattle.std.specs.Orderings.{Decides};
 
 mod replay;
 mod rest;
+mod scan;
 
 use refusal::Refusal;
 use refusal::Span;
