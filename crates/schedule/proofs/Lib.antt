@@ -10,3 +10,5 @@ pub mod Choosing
 pub mod Turns
 pub mod Cutting
 pub mod Scanning
+pub mod Padding
+pub mod Telling

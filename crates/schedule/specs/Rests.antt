@@ -1,8 +1,14 @@
 -- What is left of a lane, as the search uses it, and how many of its attempts lie in a span.
 use mathlib.Core.Bool.{cond, _&&_}
-use mathlib.Core.List.{List, [], _∷_}
+use mathlib.Core.List.{List, [], _∷_, _++_, map}
+use mathlib.Core.Path.{_≡_}
 use Prim.Native.Nat.{ℕ, zero, suc, _+_, _-_, _*_, _≤_, _<_, max}
 use lib.Dec.{leb, ltb, eqb}
+use lib.ListN.{length, replicate}
+use Rattle.std.specs.Options.{Cases}
+use Rattle.std.specs.declared.option.Option.{Option}
+use Rattle.std.specs.shelf.Lists.{All}
+use Rattle.schedule.specs.Orders.{Proper}
 use Rattle.schedule.specs.declared.Work.{Work}
 use Rattle.schedule.specs.declared.rest.Rest.{Rest}
 
@@ -96,3 +102,7 @@ pub record OverAt (t h : ℕ) (ws : List Rest) : Type 0 where
   pub low : ℕ
   pub within : low ≤ h
   pub over : h < low + total t low h ws
+
+-- what is left of the lanes of works that are all proper, filled up to eight
+abbrev pub RestsOf : List Work → Option (List Rest) → Type 0
+RestsOf ws r = Cases r (All Proper ws → ⊥) (λ out. All Proper ws × (out ≡ map rest ws ++ replicate (8 - length ws) done))

@@ -1,8 +1,11 @@
 // When orders fit: what is left of up to eight lanes is charged attempts with windows of slots, and an order fits
 // exactly when each of them can have a slot of its own. It knows nothing of benches, disks or leases.
+ghost use lib.ListN.{length};
 ghost use mathlib.Core.Path.{_≡_};
+ghost use Prim.Native.Nat.{_≤_};
 ghost use Rattle.schedule.specs.Answers.{BoundsExactlyOutsideLimits, FirstOverfullOrNone, NoneExactlyWhenAssigned};
 ghost use Rattle.schedule.specs.Orders.{WithinLimits, Proper, deadline, release, charged};
+ghost use Rattle.schedule.specs.Rests.{RestsOf};
 ghost use Rattle.std.specs.Orderings.{Decides};
 
 mod replay;
@@ -11,6 +14,11 @@ mod scan;
 
 use refusal::Refusal;
 use refusal::Span;
+use replay::first_end;
+use rest::DONE;
+use rest::Rest;
+use rest::rest_of;
+use scan::last_start;
 
 // The numbers of an order that say when its blocks are read: block i of `count` burns for `period` slots from
 // `start` + i·`period` on, through `depth` buffers in turn, and may fail `spare` times.
@@ -35,6 +43,33 @@ pub struct Work {
 
 // The last slot.
 const LAST: u32 = 1_000_000;
+
+// The overfull span of smallest h, and of those the one of largest l, among the attempts that the lanes of `work`
+// charge at `slot`; none exactly when an assignment gives each of them a slot of its own. It refuses a slot past the
+// last, more than eight lanes, and what cannot be left of a lane.
+pub fn overfull(slot: u32, work: &[Work]) -> Result<Option<Span>, Refusal>
+    ensures bounds { λ r. ⌜ BoundsExactlyOutsideLimits slot (now (work .entry)) r ⌝ }
+    ensures span { λ r. ⌜ FirstOverfullOrNone (charged slot (now (work .entry))) r ⌝ }
+    ensures assigned { λ r. ⌜ NoneExactlyWhenAssigned (charged slot (now (work .entry))) r ⌝ }
+{
+    if slot > LAST {
+        return Err(Refusal::Bounds);
+    }
+    if work.len() > 8 {
+        return Err(Refusal::Bounds);
+    }
+    let lanes = rests(work);
+    let Some(lanes) = lanes else {
+        return Err(Refusal::Bounds);
+    };
+    match first_end(slot, &lanes) {
+        None => Ok(None),
+        Some(h) => Ok(Some(Span {
+            l: last_start(slot, h, &lanes),
+            h,
+        })),
+    }
+}
 
 impl Timing {
     // True if and only if the numbers are within the limits of an order.
@@ -94,4 +129,19 @@ impl Work {
         }
         self.failed <= self.timing.spare
     }
+}
+
+// What is left of each lane, and lanes with nothing left up to eight; none if some work is not proper.
+fn rests(work: &[Work]) -> Option<[Rest; 8]>
+    requires { ⌜ length (now work) ≤ 8 ⌝ }
+    ensures { λ r. ⌜ RestsOf (now (work .entry)) r ⌝ }
+{
+    let mut out = [DONE; 8];
+    for k in 0..work.len() {
+        if !work[k].is_proper() {
+            return None;
+        }
+        out[k] = rest_of(&work[k]);
+    }
+    Some(out)
 }
