@@ -12,3 +12,4 @@ pub mod Cutting
 pub mod Scanning
 pub mod Padding
 pub mod Telling
+pub mod Examples

@@ -4,3 +4,4 @@ pub mod Rests
 pub mod Choice
 pub mod Replay
 pub mod Scan
+pub mod Examples

@@ -4,6 +4,8 @@ ghost use lib.ListN.{length};
 ghost use mathlib.Core.Path.{_≡_};
 ghost use Prim.Native.Nat.{_≤_};
 ghost use Rattle.schedule.specs.Answers.{BoundsExactlyOutsideLimits, FirstOverfullOrNone, NoneExactlyWhenAssigned};
+ghost use Rattle.schedule.specs.Choice.{OneChoice};
+ghost use Rattle.schedule.specs.Examples.{ExamplesHold};
 ghost use Rattle.schedule.specs.Orders.{WithinLimits, Proper, deadline, release, charged};
 ghost use Rattle.schedule.specs.Rests.{RestsOf};
 ghost use Rattle.std.specs.Orderings.{Decides};
@@ -130,6 +132,13 @@ impl Work {
         self.failed <= self.timing.spare
     }
 }
+
+// The rule leaves no choice, and the worked examples come out as docs/RULES.md has them. It does nothing: its contract
+// has them proved.
+pub fn laws_of_schedule()
+    ensures choice { λ _. ⌜ OneChoice ⌝ }
+    ensures examples { λ _. ⌜ ExamplesHold ⌝ }
+{}
 
 // What is left of each lane, and lanes with nothing left up to eight; none if some work is not proper.
 fn rests(work: &[Work]) -> Option<[Rest; 8]>
