@@ -120,6 +120,8 @@ fn first_end(slot: u32, work: &[Rest; 8]) -> Option<u32> {
         order[k] = due * 8 + k as u32;
     }
     order.sort_unstable();
+    let longest = work.iter().map(|lane| lane.lead).fold(1, u32::max);
+    let mut grown = false;
     let mut t = slot;
     loop {
         let head = (order[0] % 8) as usize;
@@ -133,6 +135,12 @@ fn first_end(slot: u32, work: &[Rest; 8]) -> Option<u32> {
             go_on(&mut lanes, &mut release, &mut order, 0);
             continue;
         }
+        // Past the early blocks no lane is released more than the longest lead before its deadline.
+        if grown && order[0] / 8 > t + longest {
+            t = order[0] / 8 - longest;
+            continue;
+        }
+        grown = grown || lanes.iter().all(|lane| lane.early <= lane.next || lane.blocks <= lane.next);
         let busy = busy_from(t, &release);
         if busy == NEVER {
             return None;

@@ -1,4 +1,5 @@
 -- The rule replayed over what is left of eight lanes.
+use mathlib.Core.Bool.{Bool, true}
 use mathlib.Core.List.{List, map}
 use mathlib.Core.Path.{_≡_}
 use Prim.Native.Nat.{ℕ, _+_, _*_, _/_, _%_, _≤_, _<_}
@@ -98,6 +99,21 @@ pub record Replayed (slot : ℕ) (work : List Rest) (t : ℕ) (lanes : List Rest
   pub order : InOrder 0 lanes os
   pub on : (h : ℕ) → OverAt slot h work → OverAt t h lanes
   pub back : (h : ℕ) → OverAt t h lanes → OverAt slot h work
+
+-- no block of w that is left was released at the admission
+abbrev pub Grown : Rest → Type 0
+Grown w = w .next < w .blocks → w .early ≤ w .next
+
+-- no lane has a lead above longest, which is 1 at least
+pub record Leads (longest : ℕ) (lanes : List Rest) : Type 0 where
+  pub some : 1 ≤ longest
+  pub most : All (λ w. w .lead ≤ longest) lanes
+
+-- a turn of the replay, with what it knows of the lanes' leads
+pub record Running (slot : ℕ) (work : List Rest) (longest t : ℕ) (lanes : List Rest) (rs os : List ℕ) (g : Bool) : Type 0 where
+  pub replayed : Replayed slot work t lanes rs os
+  pub leads : Leads longest lanes
+  pub grown : g ≡ true → All Grown lanes
 
 -- the least end of an overfull span
 abbrev pub FirstEnd : ℕ → List Rest → Option ℕ → Type 0
