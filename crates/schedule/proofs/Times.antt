@@ -1,7 +1,7 @@
 -- Releases and deadlines do not fall from block to block.
 use mathlib.Core.Logic.{inl, inr}
 use Prim.Native.Nat.{ℕ, _+_, _-_, _*_, _≤_, _<_}
-use native.Mathlib.Nat.{mul-le-mul-right}
+use native.Mathlib.Nat.{mul-le-mul-right, mul-le-mul-left}
 use native.Mathlib.Omega.{arith}
 use Rattle.std.proofs.shelf.Tests.{cases-lt}
 use Rattle.schedule.specs.declared.rest.Rest.{Rest}
@@ -49,3 +49,6 @@ due-most w s = elim (cases-lt (w .next) (w .blocks)) [
   | inl p ↦ (let g : deadline-of w (w .next) ≤ 1000000 = deadline-end w s (w .next) (omega arith) in grind arith)
   | inr p ↦ grind arith
 ]
+
+pub blocks-most : (w : Rest) → Sound w → w .blocks ≤ 1000000
+blocks-most w s = omega (arith, s .ends, mul-le-mul-left {m = 1} {n = w .period} (w .blocks) (s .period))

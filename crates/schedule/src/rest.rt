@@ -99,27 +99,21 @@ pub(crate) fn ready_at(w: &Rest) -> u32
     }
 }
 
-// What is left after `m` attempts on the next block, if more are left.
-pub(crate) fn spend(w: &Rest, m: u32) -> Rest
+// Makes `m` attempts on the next block, of which more are left.
+pub(crate) fn spend(w: &mut Rest, m: u32)
     requires { ⌜ m < now w .left ⌝ }
-    ensures { λ r. ⌜ r ≡ served (now (w .entry)) m ⌝ }
+    ensures { λ _. ⌜ now (w .exit) ≡ served (now (w .entry)) m ⌝ }
 {
-    Rest {
-        left: w.left - m,
-        ..*w
-    }
+    w.left -= m;
 }
 
-// What is left after all attempts on the next block.
-pub(crate) fn advance(w: &Rest) -> Rest
+// Makes all attempts on the next block.
+pub(crate) fn advance(w: &mut Rest)
     requires { ⌜ now w .next < now w .blocks ⌝ }
-    ensures { λ r. ⌜ r ≡ served (now (w .entry)) (now (w .entry) .left) ⌝ }
+    ensures { λ _. ⌜ now (w .exit) ≡ served (now (w .entry)) (now (w .entry) .left) ⌝ }
 {
-    Rest {
-        next: w.next + 1,
-        left: w.each,
-        ..*w
-    }
+    w.next += 1;
+    w.left = w.each;
 }
 
 // `w` without its blocks from `n` on.
