@@ -1,20 +1,18 @@
 -- Well-formed lists are read.
 use mathlib.Core.Path.{_≡_, refl, sym, ap, subst, _∙_}
-use mathlib.Core.Bool.{Bool, true, false, cond}
+use mathlib.Core.Bool.{Bool, true, false}
 use mathlib.Core.List.{List, [], _∷_, _++_, map, append-assoc}
-use Prim.Native.Nat.{ℕ, suc, _+_, _≤_, _<_}
+use Prim.Native.Nat.{ℕ, suc, _+_, _≤_}
 use native.Mathlib.Nat.{add-zero}
 use native.Mathlib.Omega.{arith}
-use lib.Dec.{eqb, ltb}
 use lib.ListN.{length}
 use Rattle.std.specs.declared.result.Result.{Result}
-use Rattle.std.specs.declared.result.Result.the-variants.{Ok, Err}
+use Rattle.std.specs.declared.result.Result.the-variants.{Ok}
 use Rattle.std.specs.shelf.Lists.{All}
 use Rattle.std.proofs.shelf.Tests.{cond-true, cond-false, lt-ltb, le-ltb, eq-eqb}
 use Rattle.std.proofs.shelf.Ways.{tells}
 use Rattle.layers.specs.Entries.{add-number, add-after}
 use Rattle.layers.specs.declared.plan.Entry.{Entry}
-use Rattle.cues.specs.Forms.{line-cue}
 use Rattle.cues.specs.Text.{cue-line, Writable}
 use Rattle.cues.specs.Words.{lines, cut}
 use Rattle.cues.specs.declared.Cue.{Cue}

@@ -21,7 +21,7 @@ use Rattle.cues.proofs.Cuts.{lines-step}
 use Rattle.cues.proofs.Words.{length-front}
 use Rattle.cues.specs.declared.Cue.{Cue}
 use Rattle.cues.specs.declared.Cue.the-variants.{Plan, At}
-use Rattle.cuelists.specs.Lists.{Sofar, sofar, Outcome, fault, go-on, plan-read, call-read, cue-read, lines-read, Took, Reads, fault-of}
+use Rattle.cuelists.specs.Lists.{Sofar, sofar, Outcome, fault, go-on, call-read, cue-read, lines-read, Took, Reads, fault-of}
 use Rattle.cuelists.specs.declared.due.Due.{Due}
 use Rattle.cuelists.specs.declared.list.ListFault.{ListFault}
 use Rattle.cuelists.specs.declared.list.Reason.the-variants.{BadCue, BadEntry, Full}

@@ -1,7 +1,7 @@
 -- What one line leaves.
-use mathlib.Core.Path.{_≡_, refl, sym, ap, subst, _∙_}
+use mathlib.Core.Path.{_≡_, refl, sym, subst}
 use mathlib.Core.Bool.{Bool, true, false, cond}
-use mathlib.Core.List.{List, [], _∷_}
+use mathlib.Core.List.{List, _∷_}
 use Prim.Native.Nat.{ℕ}
 use lib.Dec.{eqb, ltb}
 use lib.ListN.{length}
@@ -16,7 +16,7 @@ use Rattle.layers.specs.declared.plan.Entry.{Entry}
 use Rattle.cues.specs.declared.Cue.{Cue}
 use Rattle.cues.specs.declared.Cue.the-variants.{Plan, At}
 use Rattle.cues.specs.declared.Call.{Call}
-use Rattle.cuelists.specs.Lists.{Sofar, sofar, fault, plan-read, call-read, cue-read, Took}
+use Rattle.cuelists.specs.Lists.{sofar, fault, cue-read, Took}
 use Rattle.cuelists.specs.declared.due.Due.{Due}
 use Rattle.cuelists.specs.declared.list.ListFault.{ListFault}
 use Rattle.cuelists.specs.declared.list.Reason.the-variants.{BadEntry, Full}

@@ -1,7 +1,7 @@
 -- What a cue list says: its lines one after another, up to the first fault.
 use mathlib.Core.Path.{_≡_}
 use mathlib.Core.Bool.{Bool, true, false, cond}
-use mathlib.Core.List.{List, [], _∷_, _++_}
+use mathlib.Core.List.{List, [], _∷_}
 use Prim.Native.Nat.{ℕ, suc, min}
 use lib.Dec.{eqb, ltb}
 use lib.ListN.{length}

@@ -1,8 +1,7 @@
 // How a list is read: line by line, up to the first fault.
 ghost use mathlib.Core.Path.{_≡_};
-ghost use mathlib.Core.Bool.{Bool, true, false, cond};
+ghost use mathlib.Core.Bool.{true, false, cond};
 ghost use mathlib.Core.List.{_∷_};
-ghost use Prim.Native.Nat.{ℕ};
 ghost use lib.Dec.{eqb, ltb};
 ghost use lib.ListN.{length};
 ghost use Rattle.std.specs.Results.{Cases as ByOk};
@@ -19,7 +18,6 @@ ghost use Rattle.cuelists.specs.declared.list.Reason.the-variants.{BadEntry, F
 use crate::due::Due;
 use crate::due::DueOrdered;
 use crate::due::DueTotal;
-use cues::Call;
 use cues::Cue;
 use cues::reading::read_cue;
 use cues::token::line_at;

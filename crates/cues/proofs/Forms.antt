@@ -1,8 +1,8 @@
 -- Numbers, one word after another.
-use mathlib.Core.Path.{_≡_, refl, sym, ap, subst, _∙_}
+use mathlib.Core.Path.{_≡_, refl, sym, ap, _∙_}
 use mathlib.Core.Bool.{Bool, true, false}
 use mathlib.Core.List.{List, [], _∷_, _++_, append-assoc, append-nil}
-use Prim.Native.Nat.{ℕ, zero, suc, _+_, _-_, _<_, _≤_}
+use Prim.Native.Nat.{ℕ, suc, _+_, _-_, _<_, _≤_}
 use native.Mathlib.Omega.{arith}
 use lib.ListN.{length, take, drop, set, length-set}
 use lib.Seq.{take-all}
@@ -12,7 +12,7 @@ use Rattle.std.specs.declared.option.Option.the-variants.{Some, None}
 use Rattle.std.specs.declared.result.Result.{Result}
 use Rattle.std.specs.declared.result.Result.the-variants.{Ok, Err}
 use Rattle.std.proofs.shelf.Tests.{cond-true, le-leb}
-use Rattle.cues.specs.Words.{Word, words, word-of, number, letter}
+use Rattle.cues.specs.Words.{Word, number, letter}
 use Rattle.cues.specs.Forms.{Placed, placed, numbers, then-number, letter-form, call-form, after-slot, cue-form, form}
 use Rattle.cues.specs.Reading.{words-from, Next}
 use Rattle.cues.specs.Tokens.{token-place, token-says}

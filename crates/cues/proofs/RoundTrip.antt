@@ -1,9 +1,9 @@
 -- The line of a cue reads as the cue.
-use mathlib.Core.Path.{_≡_, refl, sym, ap, _∙_}
-use mathlib.Core.Bool.{Bool, true, false, cond}
+use mathlib.Core.Path.{_≡_, refl, ap, _∙_}
+use mathlib.Core.Bool.{Bool, true, false}
 use mathlib.Core.Logic.{_⊎_, inl, inr, ⊎-elim}
 use mathlib.Core.List.{List, [], _∷_, _++_, map}
-use Prim.Native.Nat.{ℕ, suc, _+_, _-_, _*_, _^_, _≤_, _<_}
+use Prim.Native.Nat.{ℕ, _+_, _-_, _*_, _^_, _≤_, _<_}
 use native.Mathlib.Omega.{arith}
 use lib.Dec.{eqb, lit<}
 use lib.ListN.{length, getD}
@@ -12,13 +12,11 @@ use Rattle.std.specs.Text.{asciiDigit}
 use Rattle.std.specs.Written.{decimal}
 use Rattle.std.specs.shelf.Lists.{All}
 use Rattle.std.specs.shelf.Text.{allDigits}
-use Rattle.std.specs.declared.result.Result.{Result}
-use Rattle.std.specs.declared.result.Result.the-variants.{Ok, Err}
+use Rattle.std.specs.declared.result.Result.the-variants.{Ok}
 use Rattle.std.proofs.shelf.Decimals.{digits-decimal, value-decimal, decimal-some, decimal-digit, length-decimal-le, first-decimal}
-use Rattle.std.proofs.shelf.Numerals.{Numerals, Folds, numerals-by-fold, tells-allDigits}
+use Rattle.std.proofs.shelf.Numerals.{Numerals, numerals-by-fold, tells-allDigits}
 use Rattle.std.proofs.shelf.Tests.{cond-true, cond-false, and-parts, eq-eqb, ne-eqb, le-leb, cases-lt}
-use Rattle.std.proofs.shelf.Ways.{tells}
-use Rattle.cues.specs.Words.{Word, number, onto, cut, words, is-number, number-value, word-of}
+use Rattle.cues.specs.Words.{Word, number, onto, cut, words, number-value, word-of}
 use Rattle.cues.specs.Forms.{Placed, placed, numbers, then-number, made-cue, plan, order, take-block, give, close, cue-form, form, after-slot, line-cue}
 use Rattle.cues.specs.Text.{spaced, call-letter, call-numbers, cue-words, cue-line, Writable}
 use Rattle.cues.specs.declared.Call.{Call}

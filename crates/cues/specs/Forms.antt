@@ -1,7 +1,6 @@
 -- What the words of a line must be for it to be a cue, and which word is wrong where it is none: the leftmost that its
 -- form does not allow, or, where words are missing, the end of the line.
-use mathlib.Core.Path.{_≡_}
-use mathlib.Core.Bool.{Bool, true, false, cond}
+use mathlib.Core.Bool.{Bool, cond}
 use mathlib.Core.List.{List, [], _∷_}
 use Prim.Native.Nat.{ℕ, zero, suc, _+_}
 use lib.Dec.{eqb, leb}
@@ -11,7 +10,6 @@ use Rattle.std.specs.declared.option.Option.the-variants.{Some, None}
 use Rattle.std.specs.declared.result.Result.{Result}
 use Rattle.std.specs.declared.result.Result.the-variants.{Ok, Err}
 use Rattle.cues.specs.Words.{Word, number, letter, neither, words, word-of}
-use Rattle.cues.specs.declared.Call.{Call}
 use Rattle.cues.specs.declared.Call.the-variants.{Order, Take, Give, Close}
 use Rattle.cues.specs.declared.Cue.{Cue}
 use Rattle.cues.specs.declared.Cue.the-variants.{Plan, At}

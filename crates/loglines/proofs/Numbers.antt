@@ -4,10 +4,10 @@ use mathlib.Core.List.{List, [], _∷_, _++_, append-assoc, append-nil}
 use Prim.Native.Nat.{ℕ, _+_, _/_, _%_, _^_, _<_, _≤_}
 use native.Mathlib.Omega.{arith}
 use lib.Dec.{lit<}
-use lib.ListN.{length, getD, take, drop, length-append, take-append-drop}
+use lib.ListN.{length, getD, take}
 use Rattle.std.specs.Written.{decimal}
 use Rattle.std.proofs.shelf.Decimals.{decimal-digit, decimal-step, length-decimal-le}
-use Rattle.std.proofs.shelf.Lists.{length-push, take-more, drop-more}
+use Rattle.std.proofs.shelf.Lists.{length-push, take-more}
 use Rattle.loglines.specs.Text.{spaced}
 
 pub length-digit : (n : ℕ) → n < 10 → length (decimal n) ≡ 1

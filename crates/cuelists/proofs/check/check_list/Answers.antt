@@ -1,4 +1,4 @@
-use mathlib.Core.Path.{_≡_, refl, _∙_}
+use mathlib.Core.Path.{_∙_}
 use Rattle.std.proofs.shelf.Results.{made-weaker}
 use Rattle.layers.specs.Entries.{listed}
 use Rattle.queue.specs.Held.{held, room}

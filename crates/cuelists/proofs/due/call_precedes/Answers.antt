@@ -1,6 +1,5 @@
-use mathlib.Core.Path.{_≡_, sym, ap, _∙_}
+use mathlib.Core.Path.{sym, _∙_}
 use native.Mathlib.Omega.{arith}
-use lib.ListN.{length, drop}
 use Rattle.std.proofs.shelf.Lists.{drop-all}
 use Rattle.queue.specs.Keys.{lex}
 use Rattle.cuelists.proofs.Dues.{lex-same, lex-differ}

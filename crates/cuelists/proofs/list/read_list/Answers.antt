@@ -1,5 +1,4 @@
-use mathlib.Core.Path.{_≡_, refl, sym, ap, subst, _∙_}
-use mathlib.Core.Bool.{false}
+use mathlib.Core.Path.{refl, sym, ap, subst, _∙_}
 use native.Mathlib.Omega.{arith}
 use lib.ListN.{length}
 use Rattle.std.specs.declared.result.Result.the-variants.{Ok, Err}
@@ -8,8 +7,7 @@ use Rattle.std.specs.Slices.{Shuffled}
 use Rattle.std.proofs.shelf.Sorted.{shuffled-refl}
 use Rattle.layers.specs.Entries.{listed}
 use Rattle.queue.specs.Held.{held, room}
-use Rattle.cues.specs.Words.{lines}
-use Rattle.cuelists.specs.Lists.{sofar, most, lines-read, Reads, Outcome}
+use Rattle.cuelists.specs.Lists.{sofar, most, Reads, Outcome}
 use Rattle.cuelists.proofs.Laws.{well-formed-lists-are-read}
 use Rattle.cuelists.proofs.Lines.{turn-within, turn-taken, turn-refused, turn-none}
 use Rattle.cuelists.proofs.list.read_list.Needs as need

@@ -1,4 +1,4 @@
-use mathlib.Core.Path.{_≡_, sym, ap, subst, _∙_}
+use mathlib.Core.Path.{sym, ap, subst, _∙_}
 use mathlib.Core.List.{append-assoc}
 use Rattle.std.specs.Written.{Put}
 use Rattle.cues.specs.Text.{cue-line}
