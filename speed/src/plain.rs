@@ -184,7 +184,7 @@ fn go_on(lanes: &mut [Rest; 8], release: &mut [u32; 8], order: &mut [u32; 8], pl
     if lane.next < lane.blocks {
         let due = ticket / 8 + lane.period;
         release[head] = lane.release(lane.next, due);
-        requeue(order, place, due * 8 + ticket % 8);
+        requeue(order, place, ticket + lane.period * 8);
     } else {
         release[head] = NEVER;
         requeue(order, place, NEVER * 8 + ticket % 8);

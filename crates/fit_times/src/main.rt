@@ -1,4 +1,4 @@
-// Times the search for the overfull span over eight lanes of 4,096 blocks. What it answers goes to standard output, and
+// Times `schedule::overfull` over eight lanes of 4,096 blocks. What it answers goes to standard output, and
 // how long it took, which differs from run to run, to standard error.
 use schedule::Timing;
 use schedule::Work;

@@ -1,4 +1,4 @@
-// The search for the overfull span under a C name, so that a program in another language can be held against it.
+// What `schedule::overfull` answers, under a C name, so that a program in another language can be held against it.
 ghost use mathlib.Core.Path.{_≡_};
 ghost use Rattle.schedule.specs.Answers.{BoundsExactlyOutsideLimits, FirstOverfullOrNone, NoneExactlyWhenAssigned};
 ghost use Rattle.schedule.specs.Orders.{charged};
