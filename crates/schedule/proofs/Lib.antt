@@ -1,0 +1,14 @@
+pub mod Times
+pub mod Totals
+pub mod Charging
+pub mod Serving
+pub mod Filled
+pub mod Requeueing
+pub mod Queue
+pub mod Going
+pub mod Choosing
+pub mod Turns
+pub mod Cutting
+pub mod Scanning
+pub mod Padding
+pub mod Telling
