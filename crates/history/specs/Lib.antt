@@ -1,0 +1,5 @@
+pub mod Bench
+pub mod Calls
+pub mod Told
+pub mod Laws
+pub mod Trials
