@@ -10,16 +10,20 @@ use lib.ListN.{length, getD, set}
 use Rattle.std.proofs.shelf.Lists.{set-getD, length-set, getD-set-same, getD-set-other, getD-past}
 use Rattle.std.proofs.shelf.Tests.{cases-eq, cases-lt}
 use Rattle.std.proofs.shelf.Ways.{tells}
+use Rattle.refusal.specs.Told.{refusal-number}
+use Rattle.refusal.specs.declared.Refusal.{Refusal}
+use Rattle.disk.specs.Origin.{Unreadable}
 use Rattle.disk.specs.Meaning.{Block, ToCome, failures, dead, no-block, block-at, fewer, worn, read-after, Reads, less, after-reads, times, ReadsUseUpOneFailureEach}
 
 module _ (m : List Block) (b : ℕ) (mem : List ℕ) where
-  pub reads-wrong-size : (length mem ≡ 64 → ⊥) → Reads m b mem 7 mem m
-  reads-wrong-size l = record { number = grind (arith, tells); memory = grind (arith, tells); after = grind (arith, tells) }
+  -- a read that is refused before anything is read
+  pub reads-none : (tag n : ℕ) (e : Refusal) → n ≡ length m → Unreadable tag n b (length mem) e → Reads m b mem (refusal-number e) mem m
+  reads-none tag n e l u =
+      let k = u .number in
+      let h = u .beyond in
+      record { number = grind (arith, tells); memory = grind (arith, tells); after = grind (arith, tells) }
 
   module _ (l : length mem ≡ 64) where
-    pub reads-beyond : length m ≤ b → Reads m b mem 14 mem m
-    reads-beyond h = record { number = grind (arith, tells); memory = grind (arith, tells); after = grind (arith, tells) }
-
     pub reads-dead : (xs : List ℕ) → b < length m → getD m b no-block ≡ record { bytes = xs; coming = dead } → Reads m b mem 13 mem m
     reads-dead xs h e =
         let s = set-getD m b no-block in

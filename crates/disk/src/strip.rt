@@ -8,8 +8,7 @@ ghost use Rattle.disk.specs.Meaning.{Proper};
 ghost use Rattle.disk.specs.Origin.{Arose};
 ghost use Rattle.disk.specs.Strips.{StripFits, strip-meaning};
 use crate::Disk;
-use refusal::Fault;
-use refusal::FaultKind;
+use crate::check_read;
 use refusal::Refusal;
 
 // Block y lies at byte 64·y.
@@ -45,16 +44,7 @@ pub impl<'a> Disk for Strip<'a> as StripDisk {
     }
 
     fn read(&mut self, block: usize, memory: &mut [u8]) -> Result<(), Refusal> {
-        if memory.len() != 64 {
-            return Err(Refusal::WrongSize);
-        }
-        if block >= self.bytes.len() / 64 {
-            return Err(Refusal::Faulted(Fault {
-                kind: FaultKind::Beyond,
-                tag: Self::TAG,
-                block,
-            }));
-        }
+        check_read(Self::TAG, self.bytes.len() / 64, block, memory.len())?;
         let at = 64 * block;
         memory.copy_from_slice(&self.bytes[at..at + 64]);
         Ok(())

@@ -9,6 +9,7 @@ ghost use Rattle.std.specs.Results.{Cases as ByOk};
 ghost use Rattle.image.specs.Images.{ImageFits, image-meaning};
 use crate::record::read_record;
 use disk::Disk;
+use disk::check_read;
 use refusal::Fault;
 use refusal::FaultKind;
 use refusal::Refusal;
@@ -50,16 +51,7 @@ pub impl<'a> Disk for Image<'a> as ImageDisk {
     }
 
     fn read(&mut self, block: usize, memory: &mut [u8]) -> Result<(), Refusal> {
-        if memory.len() != 64 {
-            return Err(Refusal::WrongSize);
-        }
-        if block >= self.bytes.len() / 70 {
-            return Err(Refusal::Faulted(Fault {
-                kind: FaultKind::Beyond,
-                tag: Self::TAG,
-                block,
-            }));
-        }
+        check_read(Self::TAG, self.bytes.len() / 70, block, memory.len())?;
         let at = 70 * block;
         let Some(data) = read_record(&self.bytes[at..at + 70], block) else {
             return Err(Refusal::Faulted(Fault {

@@ -11,6 +11,7 @@ ghost use Rattle.layers.specs.Plans.{plan-meaning};
 use crate::plan::Entries;
 use crate::plan::Plan;
 use disk::Disk;
+use disk::check_read;
 use refusal::Fault;
 use refusal::FaultKind;
 use refusal::Refusal;
@@ -43,16 +44,7 @@ pub impl<D: Disk> Disk for Plan<D> as PlanDisk {
     }
 
     fn read(&mut self, block: usize, memory: &mut [u8]) -> Result<(), Refusal> {
-        if memory.len() != 64 {
-            return Err(Refusal::WrongSize);
-        }
-        if block >= self.below.size() {
-            return Err(Refusal::Faulted(Fault {
-                kind: FaultKind::Beyond,
-                tag: TAG,
-                block,
-            }));
-        }
+        check_read(TAG, self.below.size(), block, memory.len())?;
         if self.entries.fails(block) {
             return Err(Refusal::Faulted(Fault {
                 kind: FaultKind::ReadFailed,

@@ -11,8 +11,7 @@ ghost use Rattle.layers.specs.Retries.{TriesFit, retry-meaning};
 use crate::retry::Retry;
 use crate::retry::Tries;
 use disk::Disk;
-use refusal::Fault;
-use refusal::FaultKind;
+use disk::check_read;
 use refusal::Refusal;
 
 // The tag of a retry's own faults.
@@ -52,16 +51,7 @@ pub impl<D: Disk> Disk for Retry<D> as RetryDisk {
     }
 
     fn read(&mut self, block: usize, memory: &mut [u8]) -> Result<(), Refusal> {
-        if memory.len() != 64 {
-            return Err(Refusal::WrongSize);
-        }
-        if block >= self.below.size() {
-            return Err(Refusal::Faulted(Fault {
-                kind: FaultKind::Beyond,
-                tag: TAG,
-                block,
-            }));
-        }
+        check_read(TAG, self.below.size(), block, memory.len())?;
         for _failed in 0..self.tries.count - 1 {
             if self.below.read(block, memory).is_ok() {
                 return Ok(());
