@@ -1,0 +1,4 @@
+// The bench: eight heads that burn blocks from one disk, through buffers of a pool that is lent to it.
+mod lane;
+mod leases;
+mod state;
