@@ -5,3 +5,5 @@ pub mod Buffers
 pub mod Sound
 pub mod Leases
 pub mod Passing
+pub mod Admitting
+pub mod Ticking
