@@ -7,3 +7,5 @@ pub mod Leases
 pub mod Passing
 pub mod Admitting
 pub mod Ticking
+pub mod Telling
+pub mod Histories

@@ -244,7 +244,7 @@ module _ (t : ℕ) (ls : List (Option Lane)) (k D : ℕ) (chosen : Chosen t ls (
           (λ _. omega arith)
 
 pub tick-sound : (d : List Block) (w : World) (f : Fault) → Sound d w → Granted (Sound d) w (ticks f)
-tick-sound d w f s = serve (choice (w .now) (w .lanes)) (chosen (w .now) (w .lanes))
+tick-sound d w f s = λ _. serve (choice (w .now) (w .lanes)) (chosen (w .now) (w .lanes))
   where
     early : Early (w .lanes)
     early h a = s .base .lanes h a .settled .early
