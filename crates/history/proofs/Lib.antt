@@ -9,3 +9,6 @@ pub mod Admitting
 pub mod Ticking
 pub mod Telling
 pub mod Histories
+pub mod Tracking
+pub mod Burning
+pub mod Lately
