@@ -225,7 +225,7 @@ taken-law number disk pool start before o v cs admits-it spare unclosed calm i p
     let seen : (x : List Call) → told w (before ++ admits o v ∷ x) ≡ view (after n x) = λ x. told-is number disk pool (before ++ admits o v ∷ x) ∙ ap view (here x) in
     let spare′ : (j : ℕ) → j < o .timing .count → Enough (block-at (b .disk) (o .first + j) .coming) (1 + o .timing .spare) =
     λ j e. enough-at-most (o .timing .spare) _
-        (subst (λ t. AtMost (o .timing .spare) (block-at (t .disk) (o .first + j) .coming)) (told-is number disk pool before) (spare j e)) in
+    (subst (λ t. AtMost (o .timing .spare) (block-at (t .disk) (o .first + j) .coming)) (told-is number disk pool before) (spare j e)) in
     let begun : Tracked o (b .now) (n .disk) (lane-at (n .lanes) (o .head)) =
     subst (λ y. Tracked o (b .now) (y .disk) (lane-at (y .lanes) (o .head))) (sym (admit-done b o admits-it))
     (set-at (λ y. Tracked o (b .now) (b .disk) (lane-in y)) (b .lanes) (o .head) (o .head) (Some (new-lane (b .now) (free (b .lanes) (b .leases)) o)) None (omega (arith, v .head, sb .base .heads))

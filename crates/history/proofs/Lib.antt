@@ -12,3 +12,6 @@ pub mod Histories
 pub mod Tracking
 pub mod Burning
 pub mod Lately
+pub mod Sharing
+pub mod Trials
+pub mod Spans

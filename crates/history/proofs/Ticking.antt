@@ -43,7 +43,7 @@ same-after : (d m : List Block) (x : ℕ) → SameBytes d m → SameBytes d (rea
 same-after d m x s = record { size = wears m x 0 .size ∙ s .size; bytes = λ y. wears m x y .bytes ∙ s .bytes y }
 
 -- a block that is released while the burn of an earlier block lasts is less than a depth behind it
-near : (o : Timing) (a now i j : ℕ) → release o a j ≤ now → now < burn-end o i → i < j → j < i + o .depth
+pub near : (o : Timing) (a now i j : ℕ) → release o a j ≤ now → now < burn-end o i → i < j → j < i + o .depth
 near o a now i j rel burns up = elim (cases-lt j (o .depth)) [
   | inl lt ↦ omega arith
   | inr ge ↦ elim (cases-lt j (i + o .depth)) [
