@@ -1,0 +1,17 @@
+pub mod Checks
+pub mod Charges
+pub mod Choosing
+pub mod Buffers
+pub mod Sound
+pub mod Leases
+pub mod Passing
+pub mod Admitting
+pub mod Ticking
+pub mod Telling
+pub mod Histories
+pub mod Tracking
+pub mod Burning
+pub mod Lately
+pub mod Sharing
+pub mod Trials
+pub mod Spans
