@@ -1,4 +1,11 @@
-// Surveys bed.img in the current folder, with the failures planned on standard input: which blocks will not come?
+// Surveys bed.img in the current folder under the plan of a cue list on standard input: which blocks will not come?
+use cuelists::due::Due;
+use cuelists::due::DueOrdered;
+use cuelists::due::DueTotal;
+use cuelists::list::ListFault;
+use cuelists::list::MOST_CALLS;
+use cuelists::list::read_list;
+use cues::Call;
 use disk::Disk;
 use disk::survey::Unread;
 use disk::survey::survey;
@@ -10,12 +17,11 @@ use layers::plan::layer::PlanDisk;
 use layers::retry::Retry;
 use layers::retry::Tries;
 use layers::retry::layer::RetryDisk;
-use refusal::Refusal;
+use queue::Queue;
 use std::error::AnyError;
 use std::fmt::Write;
 use std::fs;
-use std::io::BufRead;
-use std::io::BufReader;
+use std::io::Read;
 
 // Calls that each read makes at most: a block that fails them all did not read.
 const TRIES: usize = 4;
@@ -35,11 +41,11 @@ fn run(rt: &LibcRuntime) -> Result<(), AnyError> {
 }
 
 fn check(rt: &LibcRuntime, image: Image) -> Result<(), AnyError> {
+    let mut input = Vec::new(rt.alloc());
+    rt.stdin().read_to_end(&mut input)?;
     let mut entries = Entries::new();
-    for (i, line) in BufReader::new(rt.stdin()).lines(rt.alloc()).enumerate() {
-        if let Err(refusal) = plan_line(&mut entries, line?.as_str()) {
-            return Ok(println!(rt, "{} {} 0", refusal.number(), i.saturating_add(1))?);
-        }
+    if let Err(fault) = read_plan(input.as_slice(), &mut entries) {
+        return Ok(println!(rt, "{} {} {}", fault.number(), fault.line, fault.place)?);
     }
     let Ok(tries) = Tries::new(TRIES) else {
         return Ok(());
@@ -49,21 +55,16 @@ fn check(rt: &LibcRuntime, image: Image) -> Result<(), AnyError> {
     print_survey(rt, pile.size(), unread.as_slice())
 }
 
-// One line `p B C` put into the plan.
-fn plan_line(entries: &mut Entries, line: &str) -> Result<(), Refusal> {
-    let mut words = line.split(' ');
-    let (Some("p"), Some(block), Some(count), None) = (
-        words.next(),
-        words.next(),
-        words.next(),
-        words.next(),
-    ) else {
-        return Err(Refusal::BadEntry);
+// The plan of a cue list. Its calls are read too, and wait for no one.
+fn read_plan(input: &[u8], entries: &mut Entries) -> Result<(), ListFault> {
+    let none = Due {
+        slot: 0,
+        line: 0,
+        call: Call::Close { head: 0 },
     };
-    let (Ok(block), Ok(count)) = (block.parse::<usize>(), count.parse::<usize>()) else {
-        return Err(Refusal::BadEntry);
-    };
-    entries.add(block, count)
+    let mut memory = [none; MOST_CALLS];
+    let mut queue = Queue::new(&mut memory);
+    read_list(input, entries, &mut queue)
 }
 
 // A line for each block that did not read, and the totals.

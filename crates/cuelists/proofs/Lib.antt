@@ -1,0 +1,4 @@
+pub mod Dues
+pub mod Took
+pub mod Lines
+pub mod Checks

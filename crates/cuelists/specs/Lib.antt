@@ -1,0 +1,3 @@
+pub mod Dues
+pub mod Lists
+pub mod Checks
