@@ -1,1 +1,3 @@
 pub mod Sound
+pub mod Ticking
+pub mod Admission

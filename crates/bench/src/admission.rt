@@ -1,0 +1,1 @@
+// Admitting an order: the checks, and the lane that it begins.
