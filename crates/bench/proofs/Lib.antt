@@ -1,3 +1,3 @@
 pub mod Sound
-pub mod Ticking
-pub mod Admission
+pub mod Ticks
+pub mod Admits
