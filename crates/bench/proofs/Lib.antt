@@ -1,3 +1,4 @@
 pub mod Sound
+pub mod Lends
 pub mod Ticks
 pub mod Admits

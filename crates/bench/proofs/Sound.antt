@@ -1,18 +1,22 @@
 -- What the tests on lanes and leases say of each, and how a change of one keeps them.
 use mathlib.Core.Path.{_≡_, refl, _∙_}
-use mathlib.Core.Bool.{Bool, true, false, cond, _&&_}
+use mathlib.Core.Bool.{Bool, true, false, cond, not, _&&_, _||_}
 use mathlib.Core.List.{List, [], _∷_, map}
 use Prim.Native.Nat.{ℕ, zero, suc, _+_, _<_, _≤_}
 use native.Mathlib.Omega.{arith}
+use lib.Dec.{leb}
 use lib.ListN.{length, getD, set, drop}
 use Rattle.std.specs.declared.option.Option.{Option}
 use Rattle.std.specs.declared.option.Option.the-variants.{Some, None}
 use Rattle.std.specs.Options.{isSome}
 use Rattle.std.proofs.shelf.Lists.{at-drop-more, at-drop-all}
 use Rattle.std.proofs.shelf.Ways.{tells}
-use Rattle.history.specs.Calls.{vacant}
+use Rattle.std.proofs.shelf.Tests.{ltb-true}
+use Rattle.history.specs.Bench.{is-live}
+use Rattle.history.specs.Calls.{vacant, there}
+use Rattle.history.specs.declared.Lane.{Lane}
 use Rattle.history.specs.declared.Lease.{Lease}
-use Rattle.bench.specs.Sound.{every}
+use Rattle.bench.specs.Sound.{every, all-below, order-ok, live-ok, lane-ok}
 
 module _ {A : Type 0} (p : A → Bool) where
   -- p of the one at place h
@@ -47,3 +51,31 @@ vacant-more es m h = at-drop-more vacant es m None h ∙ vacant-by (getD es m No
 
 pub vacant-end : (es : List (Option Lease)) (m : ℕ) → length es ≤ m → vacant (drop m es) ≡ 0
 vacant-end es m h = at-drop-all vacant es m h
+
+and-left : (a b : Bool) → a && b ≡ true → a ≡ true
+and-left true b e = refl
+and-left false b e = e
+
+and-right : (a b : Bool) → a && b ≡ true → b ≡ true
+and-right true b e = e
+and-right false b e = grind arith
+
+or-not : (a b : Bool) → not a || b ≡ true → a ≡ true → b ≡ true
+or-not true b e t = e
+or-not false b e t = grind arith
+
+-- what is kept of a live lane
+pub live-kept : (l : Lane) → lane-ok l ≡ true → is-live (l .stage) ≡ true → live-ok l ≡ true
+live-kept l k v = or-not (is-live (l .stage)) (live-ok l) (and-right (leb (l .failed) 16) _ (and-right (leb (l .next) 4096) _ k)) v
+
+pub there-live : (t : ℕ) (l : Lane) (i : ℕ) → there t l i ≡ true → is-live (l .stage) ≡ true
+there-live t l i e = and-left _ _ e
+
+below-at : (n : ℕ) (xs : List ℕ) (j : ℕ) → 0 < n → all-below n xs ≡ true → getD xs j 0 < n
+below-at n [] j z e = z
+below-at n (x ∷ xs) zero z e = ltb-true x n (and-left _ _ e)
+below-at n (x ∷ xs) (suc j) z e = below-at n xs j z (and-right _ _ e)
+
+-- every buffer of a live lane is one of the pool's
+pub buffer-below : (l : Lane) (j : ℕ) → live-ok l ≡ true → getD (l .buffers) j 0 < 32
+buffer-below l j k = below-at 32 (l .buffers) j (omega arith) (and-right (leb (l .failed) (l .order .timing .spare)) _ (and-right (leb (l .next) (l .order .timing .count)) _ (and-right (leb (l .admitted) (l .order .timing .start)) _ (and-right (order-ok (l .order)) _ k))))
