@@ -1,5 +1,6 @@
 // The bench: eight heads that burn blocks from one disk, through buffers of a pool that is lent to it.
 mod admission;
+mod giving;
 mod lane;
 mod leases;
 mod state;
