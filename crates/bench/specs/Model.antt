@@ -9,6 +9,8 @@ use Rattle.std.specs.declared.option.Option.the-variants.{None}
 use Rattle.disk.specs.Meaning.{Block}
 use Rattle.history.specs.Bench.{World, some-and}
 use Rattle.history.specs.declared.Lease.{Lease}
+use Rattle.history.specs.Calls.{Slip as Named}
+use Rattle.bench.specs.declared.slip.Slip.{Slip}
 use Rattle.bench.specs.declared.state.Bench.{Bench}
 
 abbrev pub world : {D : Type 0} → (D → List Block) → List ℕ → Bench D → World
@@ -26,3 +28,7 @@ world meaning pool b = record {
 -- lease m is out to that party, by slip or not
 abbrev pub out-to : List (Option Lease) → ℕ → ℕ → Bool → Bool
 out-to es party m slip = some-and (λ e. eqb (e .party) party && cond slip (e .slip) (not (e .slip))) (getD es m None)
+
+-- what a slip names
+abbrev pub named : Slip → Named
+named s = record { lease = s .lease; bench = s .bench; party = s .party }

@@ -1,6 +1,6 @@
 // Showing a lease and giving it back, by party and number.
 ghost use mathlib.Core.Path.{_≡_};
-ghost use mathlib.Core.Bool.{false};
+ghost use mathlib.Core.Bool.{true, false};
 ghost use mathlib.Core.List.{List};
 ghost use Prim.Native.Nat.{ℕ, _<_};
 ghost use lib.ListN.{length};
@@ -55,10 +55,13 @@ impl<D: Disk> Bench<D> {
 }
 
 // Whether a lease is out to a party, by slip or by number.
-fn is_out(leases: &[Option<Lease>], party: u32, lease: u32, slip: bool) -> bool
-    requires { ⌜ lease < length (now leases) ⌝ }
-    ensures { λ r. ⌜ r ≡ out-to (now (leases .entry)) party lease slip ⌝ }
+pub(crate) fn is_out(leases: &[Option<Lease>], party: u32, lease: u32, slip: bool) -> bool
+    ensures value { λ r. ⌜ r ≡ out-to (now (leases .entry)) party lease slip ⌝ }
+    ensures within { λ r. ⌜ (r ≡ true → lease < length (now (leases .entry))) ⌝ }
 {
+    if lease as usize >= leases.len() {
+        return false;
+    }
     let slot = leases[lease as usize];
     match slot {
         Some(held) => held.party == party && held.slip == slip,

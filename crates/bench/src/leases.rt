@@ -63,7 +63,13 @@ impl<D: Disk> Bench<D> {
     }
 
     // The same, by slip or by number.
-    fn lend(&mut self, head: u32, block: u32, party: u32, slip: bool) -> Result<u8, Refusal>
+    pub(crate) fn lend(
+        &mut self,
+        head: u32,
+        block: u32,
+        party: u32,
+        slip: bool,
+    ) -> Result<u8, Refusal>
         ensures answer { λ r. ⌜ ((pool : List ℕ) → answered (λ m. lease-told (now (self .entry) .number) m party slip) r ≡ take-block (world (D·Disk .meaning) pool (now (self .entry))) head block party slip .1) ⌝ }
         ensures bench { λ r. ⌜ ((pool : List ℕ) → world (D·Disk .meaning) pool (now (self .exit)) ≡ take-block (world (D·Disk .meaning) pool (now (self .entry))) head block party slip .0) ⌝ }
     {

@@ -3,5 +3,7 @@ mod admission;
 mod giving;
 mod lane;
 mod leases;
+mod slip;
+mod slips;
 mod state;
 mod ticking;

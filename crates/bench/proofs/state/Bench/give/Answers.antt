@@ -14,7 +14,7 @@ returns-then-party-gt3 g c =
 
 pub returns-then-not-is-out : need.returns-then-not-is-out
 returns-then-not-is-out g c =
-    let out = c .if-not-is-out .ensures tt in
+    let out = c .if-not-is-out .ensures tt .value in
     record { answer = λ pool. sym (ap (λ r. r .1) (give-not-held (world (g .D·Disk .meaning) pool (c .args .self .now)) (c .args .party) (c .args .lease) (grind (arith, tells)) (grind (arith, tells)))); bench = λ pool. sym (ap (λ r. r .0) (give-not-held (world (g .D·Disk .meaning) pool (c .args .self .now)) (c .args .party) (c .args .lease) (grind (arith, tells)) (grind (arith, tells)))) }
 
 pub ghost-self : need.ghost-self
@@ -24,5 +24,5 @@ ghost-self g c =
 
 pub returns : need.returns
 returns g c =
-    let out = c .if-not-is-out .ensures tt in
+    let out = c .if-not-is-out .ensures tt .value in
     record { answer = λ pool. sym (ap (λ r. r .1) (give-taken (world (g .D·Disk .meaning) pool (c .args .self .now)) (c .args .party) (c .args .lease) (grind (arith, tells)) (grind (arith, tells)))); bench = λ pool. sym (ap (λ r. r .0) (give-taken (world (g .D·Disk .meaning) pool (c .args .self .now)) (c .args .party) (c .args .lease) (grind (arith, tells)) (grind (arith, tells)))) }

@@ -19,7 +19,7 @@ pub returns-then-pool-ne2048 : need.returns-then-pool-ne2048
 returns-then-pool-ne2048 g c = sym (ap (λ r. r .1) (show-wrong-size (world (g .D·Disk .meaning) (c .args .pool .now) (c .args .self .now)) (c .args .party) (c .args .lease) (grind (arith, tells)) (grind (arith, tells))))
 
 pub returns-then-not-is-out : need.returns-then-not-is-out
-returns-then-not-is-out g c = let out = c .if-not-is-out .ensures tt in sym (ap (λ r. r .1) (show-not-held (world (g .D·Disk .meaning) (c .args .pool .now) (c .args .self .now)) (c .args .party) (c .args .lease) (grind (arith, tells)) (grind (arith, tells)) (grind (arith, tells))))
+returns-then-not-is-out g c = let out = c .if-not-is-out .ensures tt .value in sym (ap (λ r. r .1) (show-not-held (world (g .D·Disk .meaning) (c .args .pool .now) (c .args .self .now)) (c .args .party) (c .args .lease) (grind (arith, tells)) (grind (arith, tells)) (grind (arith, tells))))
 
 pub part-result-end : need.part-result-end
 part-result-end g c =
@@ -28,6 +28,6 @@ part-result-end g c =
 
 pub returns : need.returns
 returns g c =
-    let out = c .if-not-is-out .ensures tt in
+    let out = c .if-not-is-out .ensures tt .value in
     let n : 64 * c .in-Some .held .buffer + 64 - 64 * c .in-Some .held .buffer ≡ 64 = omega arith in
     ap (λ k. shown (take k (drop (64 * c .in-Some .held .buffer) (c .args .pool .now)))) n ∙ grind arith ∙ sym (ap (λ r. r .1) (show-shown (world (g .D·Disk .meaning) (c .args .pool .now) (c .args .self .now)) (c .args .party) (c .args .lease) (grind (arith, tells)) (grind (arith, tells)) (grind (arith, tells))))
