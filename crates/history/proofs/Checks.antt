@@ -8,7 +8,7 @@ use Rattle.std.specs.Options.{isSome}
 use Rattle.std.specs.declared.option.Option.{Option}
 use Rattle.std.specs.declared.option.Option.the-variants.{Some, None}
 use Rattle.std.specs.shelf.Lists.{All}
-use Rattle.std.proofs.shelf.Tests.{cond-both, cond-false, both-ways}
+use Rattle.std.proofs.shelf.Tests.{cond-both, cond-true, cond-false, both-ways}
 use Rattle.refusal.specs.declared.Fault.{Fault}
 use Rattle.windows.specs.Windows.{tried}
 use Rattle.history.specs.declared.Event.the-variants.{Close}
@@ -30,6 +30,11 @@ checked-cases P w (c ∷ cs) r p q = cond-both (c .0) (w, c .1) (checked w cs r)
 pub passes : (w : World) (cs : List (Bool × Answer)) (r : World × Answer) → Passes cs → checked w cs r ≡ r
 passes w [] r q = refl
 passes w (c ∷ cs) r q = cond-false (c .0) _ _ (q .0) ∙ passes w cs r (q .1)
+
+-- the first check that fails refuses
+pub refuses : (w : World) (cs : List (Bool × Answer)) (c : Bool × Answer) (ds : List (Bool × Answer)) (r : World × Answer) → Passes cs → c .0 ≡ true → checked w (cs ++ c ∷ ds) r ≡ (w, c .1)
+refuses w [] c ds r q e = cond-true (c .0) (w, c .1) (checked w ds r) e
+refuses w (x ∷ cs) c ds r q e = cond-false (x .0) (w, x .1) (checked w (cs ++ c ∷ ds) r) (q .0) ∙ refuses w cs c ds r (q .1) e
 
 -- where the checks before it pass, the last one decides
 pub last-decides : (w : World) (cs : List (Bool × Answer)) (c : Bool × Answer) (r : World × Answer) → Passes cs → checked w (cs ++ c ∷ []) r ≡ cond (c .0) (w, c .1) r

@@ -16,3 +16,4 @@ pub mod Sharing
 pub mod Trials
 pub mod Spans
 pub mod Laws
+pub mod Requests
