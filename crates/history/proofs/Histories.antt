@@ -106,6 +106,9 @@ after-onward w cs = after-keeps (Onward (w .number) (w .now)) granted-onward w c
     granted-onward x (gives-slip y) p = λ _. p
     granted-onward x (closes h) p = λ _. p
 
+pub pool-sized : (d : List Block) (w : World) (s : Sound d w) → wrong-pool w .0 ≡ false
+pool-sized d w s = not-from-true _ (eq-eqb _ 2048 (s .base .pool))
+
 module _ (d : List Block) (w : World) (s : Sound d w) (m : ℕ) (e : Lease) (out : Out (w .leases) m e) where
   kept : Kept d (w .now) (w .pool) (w .lanes) e
   kept = s .base .leases m e out
@@ -122,17 +125,14 @@ module _ (d : List Block) (w : World) (s : Sound d w) (m : ℕ) (e : Lease) (out
       by true c q = q
       by false c q = not-from-false c q
 
-  below : m < 16
-  below = out-small d w s (λ _. true) m (subst (λ o. some-and (λ _. true) o ≡ true) (sym out) refl)
-
-  sized : wrong-pool w .0 ≡ false
-  sized = not-from-true _ (eq-eqb _ 2048 (s .base .pool))
+  pub out-below : m < 16
+  out-below = out-small d w s (λ _. true) m (subst (λ o. some-and (λ _. true) o ≡ true) (sym out) refl)
 
   shown-by-number : e .slip ≡ false → show w (e .party) m .1 ≡ shown (block-at d (e .block) .bytes)
   unfolding show
   shown-by-number q =
       ap (λ r. r .1) (passes w (beyond (e .party) m ∷ wrong-pool w ∷ not-held w (e .party) m ∷ []) (w, shows w m)
-      (or-from _ _ (le-ltb 3 (e .party) (kept .party)) (le-ltb 15 m (omega (arith, below))), (sized, (not-from-true _ (held-by false q), tt))))
+      (or-from _ _ (le-ltb 3 (e .party) (kept .party)) (le-ltb 15 m (omega (arith, out-below))), (pool-sized d w s, (not-from-true _ (held-by false q), tt))))
       ∙ shows-it
 
   shown-by-slip : e .slip ≡ true → show-slip w (record { lease = m; bench = w .number; party = e .party }) .1 ≡ shown (block-at d (e .block) .bytes)
@@ -140,7 +140,7 @@ module _ (d : List Block) (w : World) (s : Sound d w) (m : ℕ) (e : Lease) (out
   shown-by-slip q =
       let x : Slip = record { lease = m; bench = w .number; party = e .party } in
       ap (λ r. r .1) (passes w (wrong-pool w ∷ no-slip-of w x ∷ []) (w, shows w m)
-      (sized, (not-from-true _ (and-from _ _ (eq-eqb (w .number) (w .number) refl) (held-by true q)), tt)))
+      (pool-sized d w s, (not-from-true _ (and-from _ _ (eq-eqb (w .number) (w .number) refl) (held-by true q)), tt)))
       ∙ shows-it
 
 pub shown-law : (number : ℕ) (disk : List Block) (pool : List ℕ) → Start disk pool → ShownAsOnDisk number disk pool

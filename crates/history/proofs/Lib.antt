@@ -17,3 +17,4 @@ pub mod Trials
 pub mod Spans
 pub mod Laws
 pub mod Requests
+pub mod Slips

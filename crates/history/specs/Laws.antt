@@ -9,7 +9,7 @@ use Rattle.std.specs.Options.{Cases}
 use Rattle.std.specs.declared.option.Option.{Option}
 use Rattle.std.specs.declared.option.Option.the-variants.{Some, None}
 use Rattle.refusal.specs.declared.Fault.{Fault}
-use Rattle.refusal.specs.declared.Refusal.the-variants.{Crowded}
+use Rattle.refusal.specs.declared.Refusal.the-variants.{Crowded, NotHeld}
 use Rattle.disk.specs.Meaning.{Block, ToCome, failures, dead, block-at, Proper}
 use Rattle.windows.specs.Windows.{Window, Assigned, FirstOverfull}
 use Rattle.schedule.specs.Choice.{Choice}
@@ -20,7 +20,7 @@ use Rattle.history.specs.declared.Lease.{Lease}
 use Rattle.history.specs.declared.Ticked.{Ticked}
 use Rattle.history.specs.declared.Ticked.the-variants.{Idle, Read, Failed}
 use Rattle.history.specs.Bench.{Valid, World, is-live, lane-at, Out, burn-end, buffer-of, free}
-use Rattle.history.specs.Calls.{Slip, Answer, refused, done, ticked, leased, slipped, shown, reported, refuse, charged-with, due, next-deadline, choice, there, new, lease-told, tick, admit, take-block, show, show-slip, close, report}
+use Rattle.history.specs.Calls.{Slip, Answer, refused, done, ticked, leased, slipped, shown, reported, refuse, charged-with, due, next-deadline, choice, there, new, lease-told, tick, admit, take-block, show, show-slip, give, give-slip, close, report}
 use Rattle.history.specs.Told.{Call, admits, ticks, closes, call, after, answers, Told, lane-of, granted, told, tally, attempt-made, attempt-failed, of-tick}
 
 -- a disk, and a pool of 2,048 bytes, whatever they hold
@@ -106,6 +106,14 @@ ShownAsOnDisk number disk pool =
     × (e .slip ≡ true → show-slip (after w cs) (record { lease = m; bench = number; party = e .party }) .1 ≡ shown (block-at disk (e .block) .bytes))
     × (block-at (told w cs .disk) (e .block) .bytes ≡ block-at disk (e .block) .bytes)
 
+-- A lease that was taken by slip is neither shown nor given by its number, and the slip of another bench does neither.
+abbrev pub BySlipAlone : ℕ → List Block → List ℕ → Type 0
+BySlipAlone number disk pool =
+    let w : World = new number disk pool in
+    (cs : List Call)
+    → ((m party : ℕ) (e : Lease) → Out (told w cs .leases) m e → e .slip ≡ true → party ≤ 3 → (show (after w cs) party m .1 ≡ refuse NotHeld) × (give (after w cs) party m .1 ≡ refuse NotHeld))
+    × ((s : Slip) → (s .bench ≡ number → ⊥) → (show-slip (after w cs) s .1 ≡ refuse NotHeld) × (give-slip (after w cs) s .1 ≡ refuse NotHeld))
+
 -- A lease that is out was taken in a lane that was admitted before now: head and slot of admission tell that lane from
 -- every later one of the head.
 abbrev pub SlotTellsLane : ℕ → List Block → List ℕ → Type 0
@@ -186,6 +194,7 @@ pub record BenchLaws (number : ℕ) (disk : List Block) (pool : List ℕ) : Type
   pub crowded-law : CrowdedExactlyWhenNoAssignment number disk pool
   pub taken-law : TakenWhileItBurns number disk pool
   pub shown-law : ShownAsOnDisk number disk pool
+  pub slip-law : BySlipAlone number disk pool
   pub lane-law : SlotTellsLane number disk pool
   pub rule-law : ReadsEarliestDeadline number disk pool
   pub choice-law : ChoiceIsTheRule
