@@ -1,5 +1,5 @@
 -- A bench stays sound where a lane is admitted or closed.
-use mathlib.Core.Path.{_≡_, refl, sym, subst, ap, _∙_}
+use mathlib.Core.Path.{_≡_, refl, sym, subst, _∙_}
 use mathlib.Core.Bool.{true, false}
 use mathlib.Core.List.{List, [], _∷_, _++_}
 use Prim.Native.Nat.{ℕ, _+_, _-_, _≤_, _<_}
@@ -13,7 +13,6 @@ use Rattle.std.proofs.shelf.Tests.{both-ways, ltb-false}
 use Rattle.disk.specs.Meaning.{Block}
 use Rattle.windows.specs.Windows.{Window, NoneOverfull, count, since, tried, FirstOverfull}
 use Rattle.windows.specs.Lanes as work
-use Rattle.windows.proofs.Weights.{count-++}
 use Rattle.windows.proofs.Find.{decision}
 use Rattle.schedule.specs.Orders.{lane}
 use Rattle.history.specs.declared.Asked.{Asked}

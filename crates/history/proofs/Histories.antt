@@ -19,7 +19,7 @@ use Rattle.history.specs.declared.Asked.{Asked}
 use Rattle.history.specs.declared.Lease.{Lease}
 use Rattle.history.specs.Bench.{World, Out, some-and, lane-at, bytes-in}
 use Rattle.history.specs.Calls.{Slip, Answer, done, shown, refuse, span-told, new, admitted, before-crowded, no-room, charged-with, admit, is-out, buffer-in, beyond, wrong-pool, not-held, no-slip-of, shows, show, show-slip, choice, passed, next-deadline, next-block, served, tick}
-use Rattle.history.specs.Told.{Call, admits, ticks, takes, gives, gives-slip, closes, call, after, lane-of, told}
+use Rattle.history.specs.Told.{Call, admits, ticks, takes, gives, gives-slip, closes, call, after, lane-of}
 use Rattle.history.specs.Laws.{Start, PassesEarlierChecks, Assignable, Earliest, Serves, ReadsEarliestDeadline, CrowdedExactlyWhenNoAssignment, ShownAsOnDisk}
 use Rattle.history.proofs.Admitting.{admit-sound, close-sound}
 use Rattle.history.proofs.Checks.{Passes, passes, call-cases, last-decides, Granted, call-keeps, after-keeps}

@@ -16,7 +16,7 @@ use Rattle.disk.specs.Meaning.{Block}
 use Rattle.history.specs.declared.Lane.{Lane}
 use Rattle.history.specs.declared.Lease.{Lease}
 use Rattle.history.specs.Bench.{World, some-and, is-live, lane-at}
-use Rattle.history.specs.Calls.{Slip, with-leases, new-lease, taken, given, vacant, there}
+use Rattle.history.specs.Calls.{Slip, with-leases, new-lease, given, vacant, there}
 use Rattle.history.specs.Told.{takes, gives, gives-slip}
 use Rattle.history.proofs.Checks.{Granted}
 use Rattle.history.proofs.Sound.{Guarded, Kept, Base, Sound, set-at}

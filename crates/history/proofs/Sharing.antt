@@ -1,6 +1,6 @@
 -- No two blocks that are there share a buffer, a lease is on the block that lies in its buffer, and no lease number that
 -- is out is handed out again.
-use mathlib.Core.Path.{_≡_, refl, sym, subst, ap, _∙_}
+use mathlib.Core.Path.{_≡_, refl, sym, subst, ap}
 use mathlib.Core.Bool.{Bool, true, false}
 use mathlib.Core.List.{List, [], _∷_}
 use mathlib.Core.Logic.{inl, inr}
@@ -16,12 +16,12 @@ use Rattle.disk.specs.Meaning.{Block}
 use Rattle.history.specs.declared.Lane.{Lane}
 use Rattle.history.specs.declared.Lease.{Lease}
 use Rattle.history.specs.Bench.{World, Out, is-live, lane-at, burn-end, buffer-of}
-use Rattle.history.specs.Calls.{Slip, Answer, refused, new, there, vacant, lease-told, take-block}
-use Rattle.history.specs.Told.{Call, takes, after, Told, lane-of}
+use Rattle.history.specs.Calls.{Slip, refused, new, there, vacant, lease-told, take-block}
+use Rattle.history.specs.Told.{takes, after, Told, lane-of}
 use Rattle.history.specs.Laws.{Start, NothingShared}
 use Rattle.history.proofs.Buffers.{places-differ}
 use Rattle.history.proofs.Checks.{call-cases}
-use Rattle.history.proofs.Histories.{new-sound, after-sound, after-onward}
+use Rattle.history.proofs.Histories.{new-sound, after-sound}
 use Rattle.history.proofs.Sound.{IsLive, Steady, Sound}
 use Rattle.history.proofs.Telling.{told-is}
 use Rattle.history.proofs.Ticking.{near}

@@ -1,8 +1,8 @@
 -- A lease that was taken by slip is shown and given by its slip alone.
-use mathlib.Core.Path.{_≡_, refl, sym, subst, ap, _∙_}
-use mathlib.Core.Bool.{Bool, true, false, cond, not, _&&_}
+use mathlib.Core.Path.{_≡_, sym, subst, ap, _∙_}
+use mathlib.Core.Bool.{true, false, cond, not, _&&_}
 use mathlib.Core.List.{List, [], _∷_}
-use Prim.Native.Nat.{ℕ, _≤_, _<_}
+use Prim.Native.Nat.{ℕ, _≤_}
 use native.Mathlib.Omega.{arith}
 use lib.Dec.{eqb}
 use Rattle.std.proofs.shelf.Tests.{and-left, and-right, not-from-true, not-from-false, or-from, le-ltb, ne-eqb}
@@ -11,7 +11,7 @@ use Rattle.disk.specs.Meaning.{Block}
 use Rattle.history.specs.declared.Lease.{Lease}
 use Rattle.history.specs.Bench.{World, Out, some-and}
 use Rattle.history.specs.Calls.{Slip, done, refuse, new, is-out, beyond, wrong-pool, not-held, no-slip-of, shows, show, show-slip, given, give, give-slip}
-use Rattle.history.specs.Told.{Call, after}
+use Rattle.history.specs.Told.{after}
 use Rattle.history.specs.Laws.{Start, BySlipAlone}
 use Rattle.history.proofs.Checks.{refuses}
 use Rattle.history.proofs.Histories.{new-sound, after-sound, after-onward, out-below, pool-sized}

@@ -29,7 +29,7 @@ use Rattle.history.specs.declared.Lease.{Lease}
 use Rattle.history.specs.declared.Stage.{Stage}
 use Rattle.history.specs.declared.Stage.the-variants.{Faulted}
 use Rattle.history.specs.Bench.{World, is-live, lane-in, lane-at, no-lane, Out, burn-end, buffer-of, bytes-in, written, work}
-use Rattle.history.specs.Calls.{Answer, on-live, happens, due, next-block, choice, moved, read-done, read-failed, passed, served, tick}
+use Rattle.history.specs.Calls.{Answer, on-live, happens, due, next-block, choice, moved, passed, served}
 use Rattle.history.specs.Told.{ticks}
 use Rattle.history.proofs.Buffers.{length-written, written-same, written-other, places-differ}
 use Rattle.history.proofs.Charges.{charge, charges, charged-in, windows-of, whole, fits-less, fits-rule, count-set, less-tries, serves, waits, on-time}

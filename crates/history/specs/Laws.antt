@@ -21,7 +21,7 @@ use Rattle.history.specs.declared.Ticked.{Ticked}
 use Rattle.history.specs.declared.Ticked.the-variants.{Idle, Read, Failed}
 use Rattle.history.specs.Bench.{Valid, World, is-live, lane-at, Out, burn-end, buffer-of, free}
 use Rattle.history.specs.Calls.{Slip, Answer, refused, done, ticked, leased, slipped, shown, reported, refuse, charged-with, due, next-deadline, choice, there, new, lease-told, tick, admit, take-block, show, show-slip, give, give-slip, close, report}
-use Rattle.history.specs.Told.{Call, admits, ticks, closes, call, after, answers, Told, lane-of, granted, told, tally, attempt-made, attempt-failed, of-tick}
+use Rattle.history.specs.Told.{Call, admits, closes, call, after, answers, Told, lane-of, granted, told, tally, attempt-made, attempt-failed, of-tick}
 
 -- a disk, and a pool of 2,048 bytes, whatever they hold
 pub record Start (disk : List Block) (pool : List ℕ) : Type 0 where
