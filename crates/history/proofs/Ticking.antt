@@ -146,43 +146,62 @@ module _ (d : List Block) (w : World) (b : Base d w) (k : ℕ) (is : due (w .now
   elsewhere : (i : ℕ) → i < l .next → w .now < burn-end (l .order .timing) i → i % l .order .timing .depth ≡ l .next % l .order .timing .depth → ⊥
   elsewhere i lt burns = places-differ i (l .next) (l .order .timing .depth) lt (near (l .order .timing) (l .admitted) (w .now) i (l .next) released burns lt)
 
+  -- THE READ THAT SUCCEEDS
+
+  abbrev n : ℕ
+  n = l .order .timing .depth
+
+  abbrev x : ℕ
+  x = buffer-of l (l .next)
+
+  abbrev ks : List ℕ
+  ks = block-at (w .disk) (next-block l) .bytes
+
+  place-small : (i : ℕ) → i % n < n
+  place-small i = mod-lt i (omega (arith, steady .settled .valid .timing .depth-least))
+
+  inside : 64 * x + 64 ≤ length (w .pool)
+  inside = let low : x < 32 = steady .settled .placed (l .next % n) (place-small (l .next)) in omega (arith, b .pool)
+
+  as-on-disk : ks ≡ block-at d (next-block l) .bytes
+  as-on-disk = b .disk .bytes (next-block l)
+
+  full : length ks ≡ 64
+  full = ap length as-on-disk ∙ b .full (next-block l) (omega (arith, unread, steady .settled .on-disk))
+
+  -- the other buffers are as they were
+  others-kept : (y : ℕ) → y < 32 → (y ≡ x → ⊥) → bytes-in (written (w .pool) x ks) y ≡ bytes-in (w .pool) y
+  others-kept y low ne = written-other (w .pool) ks x inside full y (omega (arith, b .pool)) ne
+
+  read-bytes : (i : ℕ) → i < suc (l .next) → w .now < burn-end (l .order .timing) i → bytes-in (written (w .pool) x ks) (buffer-of l i) ≡ block-at d (l .order .first + i) .bytes
+  read-bytes i e burns = elim (cases-eq i (l .next)) [
+    | inl q ↦ subst (λ i. bytes-in (written (w .pool) x ks) (buffer-of l i) ≡ block-at d (l .order .first + i) .bytes) (sym q) (written-same (w .pool) ks x inside full ∙ as-on-disk)
+    | inr q ↦
+        let lt : i < l .next = omega arith in
+        others-kept (buffer-of l i) (steady .settled .placed (i % n) (place-small i))
+        (λ e. elsewhere i lt burns (b .apart k k (i % n) (l .next % n) alive alive (place-small i) (place-small (l .next)) e .1))
+        ∙ steady .bytes i lt burns
+  ]
+
+  read-steady : Steady d (w .now) (written (w .pool) x ks) k (on-live l BlockRead)
+  read-steady = record {
+    settled = steady .settled;
+    upto = unread;
+    spared = omega arith;
+    released = λ i e. elim (cases-eq i (l .next)) [
+      | inl q ↦ subst (λ i. release (l .order .timing) (l .admitted) i ≤ w .now) (sym q) released
+      | inr q ↦ steady .released i (omega arith)
+    ];
+    bytes = read-bytes;
+  }
+
   done-base : Base d (read-as w k l (on-live l BlockRead))
   done-base =
-      let s : Steady d (w .now) (w .pool) k l = steady in
-      let x : ℕ = buffer-of l (l .next) in
-      let n : ℕ = l .order .timing .depth in
-      let ks : List ℕ = block-at (w .disk) (next-block l) .bytes in
-      let some : 0 < n = omega (arith, s .settled .valid .timing .depth-least) in
-      let here : l .next % n < n = mod-lt (l .next) some in
-      let low : x < 32 = s .settled .placed (l .next % n) here in
-      let fits : 64 * x + 64 ≤ length (w .pool) = omega (arith, b .pool) in
-      let is-k : ks ≡ block-at d (next-block l) .bytes = b .disk .bytes (next-block l) in
-      let full : length ks ≡ 64 = ap length is-k ∙ b .full (next-block l) (omega (arith, unread, s .settled .on-disk)) in
-      let other : (y : ℕ) → y < 32 → (y ≡ x → ⊥) → bytes-in (written (w .pool) x ks) y ≡ bytes-in (w .pool) y =
-      λ y small ne. written-other (w .pool) ks x fits full y (omega (arith, b .pool)) ne in
-      moves d w b k (suc (l .next)) 0 (l .stage) (written (w .pool) x ks) _ _ _ small (λ e. e) (omega arith)
-      (λ _. record {
-        settled = s .settled;
-        upto = unread;
-        spared = omega arith;
-        released = λ i e. elim (cases-eq i (l .next)) [
-          | inl q ↦ subst (λ i. release (l .order .timing) (l .admitted) i ≤ w .now) (sym q) released
-          | inr q ↦ s .released i (omega arith)
-        ];
-        bytes = λ i e burns. elim (cases-eq i (l .next)) [
-          | inl q ↦ subst (λ i. bytes-in (written (w .pool) x ks) (buffer-of l i) ≡ block-at d (l .order .first + i) .bytes) (sym q)
-              (written-same (w .pool) ks x fits full ∙ is-k)
-          | inr q ↦
-              let lt : i < l .next = omega arith in
-              other (buffer-of l i) (s .settled .placed (i % n) (mod-lt i some))
-              (λ e. elsewhere i lt burns (b .apart k k (i % n) (l .next % n) alive alive (mod-lt i some) here e .1))
-              ∙ s .bytes i lt burns
-        ];
-      })
-      (length-written (w .pool) ks x fits full ∙ b .pool) (same-after d (w .disk) _ (b .disk))
-      (λ h ne also j jj. other _ (b .lanes h also .settled .placed j jj) (λ e. ne (b .apart h k j (l .next % n) also alive jj here e .0)))
-      (λ m e out. other (e .buffer) (b .leases m e out .placed)
-      (λ q. let g = b .leases m e out .guarded k (l .next % n) alive here (sym q) in elsewhere (e .index) (g .read) (g .burning) (g .place)))
+      moves d w b k (suc (l .next)) 0 (l .stage) (written (w .pool) x ks) _ _ _ small (λ e. e) (omega arith) (λ _. read-steady)
+      (length-written (w .pool) ks x inside full ∙ b .pool) (same-after d (w .disk) _ (b .disk))
+      (λ h ne also j jj. others-kept _ (b .lanes h also .settled .placed j jj) (λ e. ne (b .apart h k j (l .next % n) also alive jj (place-small (l .next)) e .0)))
+      (λ m e out. others-kept (e .buffer) (b .leases m e out .placed)
+      (λ q. let g = b .leases m e out .guarded k (l .next % n) alive (place-small (l .next)) (sym q) in elsewhere (e .index) (g .read) (g .burning) (g .place)))
 
 charge-live : (j : ℕ) (l : Lane) → j < charge l .blocks → IsLive l
 charge-live j l e = elim (cases-bool (is-live (l .stage))) [
