@@ -32,7 +32,7 @@ use Rattle.history.proofs.Histories.{new-sound, call-sound, after-sound, after
 use Rattle.history.proofs.Passing.{aged-at}
 use Rattle.history.proofs.Sound.{IsLive, Steady, Sound, set-at}
 use Rattle.history.proofs.Telling.{view, told-is}
-use Rattle.history.proofs.Ticking.{charge-at}
+use Rattle.history.proofs.Serving.{charge-at}
 use Rattle.history.proofs.Tracking.{Tracked, enough-more, enough-at-most, owed-some, tracked-other, tracked-read, tracked-failed}
 
 -- a live lane that no lease holds up and whose last burn goes on stays as it is

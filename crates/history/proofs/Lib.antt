@@ -6,6 +6,7 @@ pub mod Sound
 pub mod Leases
 pub mod Passing
 pub mod Admitting
+pub mod Serving
 pub mod Ticking
 pub mod Telling
 pub mod Histories

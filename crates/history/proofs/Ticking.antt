@@ -11,16 +11,14 @@ use lib.ListN.{length, getD, set}
 use Rattle.std.specs.Options.{Cases}
 use Rattle.std.specs.declared.option.Option.{Option}
 use Rattle.std.specs.declared.option.Option.the-variants.{Some, None}
-use Rattle.std.proofs.shelf.Lists.{length-map, map-set, getD-past}
-use Rattle.std.proofs.shelf.Elements.{all-from-getD, all-map}
-use Rattle.std.proofs.shelf.Tests.{cond-both, both-ways, cases-lt, cases-eq, cases-bool, and-parts, ltb-true, leb-true, cond-true, cond-false, le-ltb}
+use Rattle.std.proofs.shelf.Lists.{getD-past}
+use Rattle.std.proofs.shelf.Tests.{cond-both, both-ways, cases-lt, cases-eq, and-parts, ltb-true, leb-true, cond-true, cond-false, le-ltb}
 use Rattle.refusal.specs.declared.Fault.{Fault}
 use Rattle.disk.specs.Meaning.{Block, block-at, read-number, read-after}
 use Rattle.disk.proofs.Meaning.{wears}
-use Rattle.windows.specs.Windows.{NoneOverfull, count, since, Rule}
-use Rattle.windows.specs.Lanes as windows
-use Rattle.windows.specs.Lanes.{upTo, attempts, spend, NoneSooner}
-use Rattle.schedule.specs.Orders.{deadline, release, owed}
+use Rattle.windows.specs.Windows.{NoneOverfull, count}
+use Rattle.windows.specs.Lanes.{attempts}
+use Rattle.schedule.specs.Orders.{deadline, release}
 use Rattle.schedule.specs.declared.Timing.{Timing}
 use Rattle.history.specs.declared.Event.{Event}
 use Rattle.history.specs.declared.Event.the-variants.{FailedAttempt, BlockRead}
@@ -28,14 +26,15 @@ use Rattle.history.specs.declared.Lane.{Lane}
 use Rattle.history.specs.declared.Lease.{Lease}
 use Rattle.history.specs.declared.Stage.{Stage}
 use Rattle.history.specs.declared.Stage.the-variants.{Faulted}
-use Rattle.history.specs.Bench.{World, is-live, lane-in, lane-at, no-lane, Out, burn-end, buffer-of, bytes-in, written, work}
+use Rattle.history.specs.Bench.{World, is-live, lane-in, lane-at, Out, burn-end, buffer-of, bytes-in, written}
 use Rattle.history.specs.Calls.{Answer, on-live, happens, due, next-block, choice, moved, passed, served}
 use Rattle.history.specs.Told.{ticks}
 use Rattle.history.proofs.Buffers.{length-written, written-same, written-other, places-differ}
-use Rattle.history.proofs.Charges.{charge, charges, charged-in, windows-of, whole, fits-less, fits-rule, count-set, less-tries, serves, waits, on-time}
+use Rattle.history.proofs.Charges.{charged-in}
 use Rattle.history.proofs.Checks.{Granted}
-use Rattle.history.proofs.Choosing.{Idle, Chosen, chosen, due-first, deadline-up}
-use Rattle.history.proofs.Passing.{getD-map-any, passed-sound}
+use Rattle.history.proofs.Choosing.{Idle, Chosen, chosen, deadline-up}
+use Rattle.history.proofs.Passing.{passed-sound}
+use Rattle.history.proofs.Serving.{Early, idle-fits, served-fits}
 use Rattle.history.proofs.Sound.{IsLive, Steady, SameBytes, Base, Sound, put-lane}
 
 -- a read alters no bytes
@@ -202,65 +201,6 @@ module _ (d : List Block) (w : World) (b : Base d w) (k : ℕ) (is : due (w .now
       (λ h ne also j jj. others-kept _ (b .lanes h also .settled .placed j jj) (λ e. ne (b .apart h k j (l .next % n) also alive jj (place-small (l .next)) e .0)))
       (λ m e out. others-kept (e .buffer) (b .leases m e out .placed)
       (λ q. let g = b .leases m e out .guarded k (l .next % n) alive (place-small (l .next)) (sym q) in elsewhere (e .index) (g .read) (g .burning) (g .place)))
-
-charge-live : (j : ℕ) (l : Lane) → j < charge l .blocks → IsLive l
-charge-live j l e = elim (cases-bool (is-live (l .stage))) [
-  | inl t ↦ t
-  | inr f ↦ absurd (let z : charge l .blocks ≡ 0 = cond-false _ _ 0 f in omega arith)
-]
-
-pub charge-at : (ls : List (Option Lane)) (k : ℕ) → getD (charges ls) k (charge no-lane) ≡ charge (lane-at ls k)
-charge-at ls k = getD-map-any (λ o. charge (lane-in o)) ls k None
-
--- every lane that is live was admitted before its start
-abbrev pub Early : List (Option Lane) → Type 0
-Early ls = (h : ℕ) → IsLive (lane-at ls h) → lane-at ls h .admitted ≤ lane-at ls h .order .timing .start
-
-idle-fits : (t : ℕ) (ls : List (Option Lane)) → Early ls → Idle t ls → NoneOverfull (charged-in t ls) → NoneOverfull (charged-in (suc t) ls)
-idle-fits t ls early idle =
-    fits-rule t _ _ (waits t (charges ls) (all-map (λ a. (j : ℕ) → j < a .blocks → 0 < a .owed j → t < a .release j) (λ o. charge (lane-in o)) ls
-    (all-from-getD _ ls None (λ h in′ j lt some. elim (cases-lt t (release (lane-at ls h .order .timing) (lane-at ls h .admitted) j)) [
-      | inl late ↦ late
-      | inr rel ↦ absurd (both-ways _ (idle h) (due-first t j (lane-at ls h) (early h (charge-live j (lane-at ls h) lt)) lt some rel .0))
-    ]))))
-
-module _ (t : ℕ) (ls : List (Option Lane)) (k D : ℕ) (chosen : Chosen t ls (k, D)) (early : Early ls) (spared : lane-at ls k .failed ≤ lane-at ls k .order .timing .spare) where
-  open-lane : (lane-at ls k .next < charge (lane-at ls k) .blocks) × (0 < owed (work (lane-at ls k)) (lane-at ls k .next)) × (release (lane-at ls k .order .timing) (lane-at ls k .admitted) (lane-at ls k .next) ≤ t)
-  open-lane = let is = chosen .is-due in (grind arith, grind arith, grind arith)
-
-  served-fits : (i f : ℕ) (s : Stage)
-      → ((j : ℕ) → owed (work (moved (lane-at ls k) i f s)) j ≤ spend (charge (lane-at ls k)) (lane-at ls k .next) .owed j)
-      → NoneOverfull (charged-in t ls) → NoneOverfull (charged-in (suc t) (set ls k (Some (moved (lane-at ls k) i f s))))
-  served-fits i f s few fits =
-      let l : Lane = lane-at ls k in
-      let l′ : Lane = moved l i f s in
-      let as′ : List windows.Lane = charges ls in
-      let inside : k < length as′ = rw length-map (chosen .place) in
-      let spent : windows.Lane = spend (charge l) (l .next) in
-      let is = charge-at ls k in
-      let (lt, some, rel) = open-lane in
-      let fresh : t < deadline (l .order .timing) (l .next) =
-      subst (λ a. l .next < a .blocks → 0 < a .owed (l .next) → t < a .deadline (l .next)) is (λ lt some. on-time t (l .next) k as′ (charge no-lane) inside lt some fits) lt some in
-      let none : NoneSooner t (deadline (l .order .timing) (l .next)) as′ =
-      all-map (λ a. (j : ℕ) → j < a .blocks → 0 < a .owed j → a .release j ≤ t → deadline (l .order .timing) (l .next) ≤ a .deadline j) (λ o. charge (lane-in o)) ls
-      (all-from-getD _ ls None (λ h in′ j lt some rel.
-      let q = due-first t j (lane-at ls h) (early h (charge-live j (lane-at ls h) lt)) lt some rel in
-      omega (arith, chosen .is, chosen .first h (q .0) .0, q .1))) in
-      let r = subst (λ a. l .next < a .blocks → 0 < a .owed (l .next) → a .release (l .next) ≤ t → t < a .deadline (l .next) → NoneSooner t (a .deadline (l .next)) as′
-      → Rule t (attempts as′) (attempts (set as′ k (spend a (l .next))))) is (serves t (l .next) k as′ (charge no-lane) inside) lt some rel fresh none in
-      fits-less _ _
-      (λ a h. rw (map-set (λ o. charge (lane-in o)) ls k (Some l′))
-      (omega (arith, count-set (suc t) a h as′ k (charge l′) (charge no-lane) inside, count-set (suc t) a h as′ k spent (charge no-lane) inside, less a h)))
-      (fits-rule t _ _ r fits)
-    where
-      less : (a h : ℕ) → count a h (windows-of (suc t) (moved (lane-at ls k) i f s)) ≤ count a h (since (suc t) (whole (spend (charge (lane-at ls k)) (lane-at ls k .next))))
-      less a h =
-          cond-both (is-live s) (lane-at ls k .order .timing .count) 0
-          (λ n. count a h (since (suc t) (upTo (charge (moved (lane-at ls k) i f s)) n)) ≤ count a h (since (suc t) (whole (spend (charge (lane-at ls k)) (lane-at ls k .next)))))
-          (λ _. subst (λ n. count a h (since (suc t) (upTo (charge (moved (lane-at ls k) i f s)) (lane-at ls k .order .timing .count))) ≤ count a h (since (suc t) (upTo (spend (charge (lane-at ls k)) (lane-at ls k .next)) n)))
-          (sym (cond-true _ _ 0 (charge-live _ (lane-at ls k) (open-lane .0))))
-          (less-tries (suc t) a h (spend (charge (lane-at ls k)) (lane-at ls k .next)) (charge (moved (lane-at ls k) i f s)) (lane-at ls k .order .timing .count) (λ j _. few j) (λ _. refl)))
-          (λ _. omega arith)
 
 pub tick-sound : (d : List Block) (w : World) (f : Fault) → Sound d w → Granted (Sound d) w (ticks f)
 tick-sound d w f s = λ _. serve (choice (w .now) (w .lanes)) (chosen (w .now) (w .lanes))
