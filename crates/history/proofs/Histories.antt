@@ -9,7 +9,7 @@ use lib.ListN.{length, getD, replicate}
 use Rattle.std.specs.Options.{Cases, isSome}
 use Rattle.std.specs.declared.option.Option.{Option}
 use Rattle.std.specs.declared.option.Option.the-variants.{Some, None}
-use Rattle.std.proofs.shelf.Tests.{both-ways, and-from, or-from, not-from-true, not-from-false, le-ltb, eq-eqb, cond-both}
+use Rattle.std.proofs.shelf.Tests.{both-ways, eqb-true, and-from, or-from, not-from-true, not-from-false, le-ltb, eq-eqb, cond-both}
 use Rattle.refusal.specs.declared.Fault.{Fault}
 use Rattle.refusal.specs.declared.Refusal.the-variants.{Crowded}
 use Rattle.disk.specs.Meaning.{Block, block-at, read-number}
@@ -18,11 +18,11 @@ use Rattle.windows.proofs.Find.{decision}
 use Rattle.history.specs.declared.Asked.{Asked}
 use Rattle.history.specs.declared.Lease.{Lease}
 use Rattle.history.specs.Bench.{World, Out, some-and, lane-at, bytes-in}
-use Rattle.history.specs.Calls.{Slip, Answer, done, shown, refuse, span-told, new, admitted, before-crowded, no-room, charged-with, admit, is-out, buffer-in, beyond, wrong-pool, not-held, no-slip-of, shows, show, show-slip, choice, passed, next-deadline, next-block, served, tick}
+use Rattle.history.specs.Calls.{Slip, Answer, done, shown, refuse, span-told, new, admitted, before-crowded, no-room, charged-with, admit, is-out, buffer-in, beyond, wrong-pool, not-held, no-slip-of, shows, show, show-slip, choice, passed, next-deadline, next-block, served, tick, tick-checks}
 use Rattle.history.specs.Told.{Call, admits, ticks, takes, gives, gives-slip, closes, call, after, lane-of}
 use Rattle.history.specs.Laws.{Start, PassesEarlierChecks, Assignable, Earliest, Serves, ReadsEarliestDeadline, CrowdedExactlyWhenNoAssignment, ShownAsOnDisk}
 use Rattle.history.proofs.Admitting.{admit-sound, close-sound}
-use Rattle.history.proofs.Checks.{Passes, passes, call-cases, last-decides, Granted, call-keeps, after-keeps}
+use Rattle.history.proofs.Checks.{Passes, passes, checked-cases, last-decides, Granted, call-keeps, after-keeps}
 use Rattle.history.proofs.Choosing.{Idle, Chosen, chosen}
 use Rattle.history.proofs.Leases.{take-sound, give-sound, give-slip-sound, out-small}
 use Rattle.history.proofs.Sound.{IsLive, Kept, Sound}
@@ -164,9 +164,13 @@ served-serves w f (Some c) q =
     (q .is-due, refl, λ g yes. subst (λ d. (d ≤ next-deadline (lane-at (w .lanes) g)) × (d ≡ next-deadline (lane-at (w .lanes) g) → c .0 ≤ g)) (sym (q .is)) (q .first g yes)) in
     cond-both (eqb (read-number (w .disk) (next-block (lane-at (w .lanes) (c .0))) 64) 0) _ _ (λ (r : World × Answer). Serves (w .now) (lane-at (w .lanes)) (r .1)) (λ _. is) (λ _. (is, refl))
 
-pub rule-law : (number : ℕ) (disk : List Block) (pool : List ℕ) → ReadsEarliestDeadline number disk pool
-rule-law number disk pool cs f =
+pub rule-law : (number : ℕ) (disk : List Block) (pool : List ℕ) → Start disk pool → ReadsEarliestDeadline number disk pool
+unfolding tick
+rule-law number disk pool start cs f =
     let w : World = after (new number disk pool) cs in
+    let s : Sound disk w = after-sound disk (new number disk pool) cs (new-sound number disk pool start) in
     let law : Serves (w .now) (lane-at (w .lanes)) (tick w f .1) =
-    call-cases (λ r. Serves (w .now) (lane-at (w .lanes)) (r .1)) w (λ _. tt) (ticks f) (λ _. served-serves w f (choice (w .now) (w .lanes)) (chosen (w .now) (w .lanes))) in
+    checked-cases (λ r. Serves (w .now) (lane-at (w .lanes)) (r .1)) w (tick-checks w) (served w f (choice (w .now) (w .lanes)))
+    ((λ e. absurd (both-ways _ (pool-sized disk w s) e)), ((λ e. eqb-true (w .now) 1000000 e), tt))
+    (λ _. served-serves w f (choice (w .now) (w .lanes)) (chosen (w .now) (w .lanes))) in
     subst (λ t. Serves (t .now) (lane-of t) (tick w f .1)) (sym (told-is number disk pool cs)) law

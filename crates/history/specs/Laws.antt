@@ -75,13 +75,15 @@ module _ (number : ℕ) (disk : List Block) (pool : List ℕ) (before : List Cal
 
   -- no call closed it
   abbrev pub NeverClosed : List Call → Type 0
-  NeverClosed since = (x y : List Call) → since ≡ x ++ closes (o .head) ∷ y → granted (close (after (new number disk pool) (upto x)) (o .head) .1) ≡ true → ⊥
+  NeverClosed since = (x y : List Call) → since ≡ x ++ closes (o .head) ∷ y
+      → granted (close (after (new number disk pool) (upto x)) (o .head) .1) ≡ true → ⊥
 
   -- none of its leases was still out when its block's burn ended
   abbrev pub NeverHeld : List Call → Type 0
   NeverHeld since = (x y : List Call) → since ≡ x ++ y
       → let t : Told = told (new number disk pool) (upto x) in
-      (m : ℕ) (e : Lease) → Out (t .leases) m e → e .head ≡ o .head → e .admitted ≡ told (new number disk pool) before .now → t .now < burn-end (o .timing) (e .index)
+      (m : ℕ) (e : Lease) → Out (t .leases) m e → e .head ≡ o .head → e .admitted ≡ told (new number disk pool) before .now
+      → t .now < burn-end (o .timing) (e .index)
 
 -- Then, while the burn of one of its blocks lasts and fewer than sixteen leases are out, take of that block is granted to
 -- every party.
@@ -92,7 +94,8 @@ TakenWhileItBurns number disk pool =
     → let t : Told = told w (upto number disk pool before o v since) in
     admit (after w before) o .1 ≡ done
     → SpareEnough number disk pool before o v → NeverClosed number disk pool before o v since → NeverHeld number disk pool before o v since
-    → (i party : ℕ) (slip : Bool) → i < o .timing .count → party ≤ 3 → deadline (o .timing) i ≤ t .now → t .now < burn-end (o .timing) i → count-out (t .leases) < 16
+    → (i party : ℕ) (slip : Bool) → i < o .timing .count → party ≤ 3
+    → deadline (o .timing) i ≤ t .now → t .now < burn-end (o .timing) i → count-out (t .leases) < 16
     → (m : ℕ) × (take-block (after w (upto number disk pool before o v since)) (o .head) i party slip .1 ≡ lease-told number m party slip)
 
 -- Show of a lease that is out, by its slip if it has one and else by its party, answers the bytes that the disk holds for
@@ -103,7 +106,8 @@ ShownAsOnDisk number disk pool =
     (cs : List Call) (m : ℕ) (e : Lease) → Out (told w cs .leases) m e
     → (e .block < length disk)
     × (e .slip ≡ false → show (after w cs) (e .party) m .1 ≡ shown (block-at disk (e .block) .bytes))
-    × (e .slip ≡ true → show-slip (after w cs) (record { lease = m; bench = number; party = e .party }) .1 ≡ shown (block-at disk (e .block) .bytes))
+    × (e .slip ≡ true
+    → show-slip (after w cs) (record { lease = m; bench = number; party = e .party }) .1 ≡ shown (block-at disk (e .block) .bytes))
     × (block-at (told w cs .disk) (e .block) .bytes ≡ block-at disk (e .block) .bytes)
 
 -- A lease that was taken by slip is neither shown nor given by its number, and the slip of another bench does neither.
@@ -111,7 +115,8 @@ abbrev pub BySlipAlone : ℕ → List Block → List ℕ → Type 0
 BySlipAlone number disk pool =
     let w : World = new number disk pool in
     (cs : List Call)
-    → ((m party : ℕ) (e : Lease) → Out (told w cs .leases) m e → e .slip ≡ true → party ≤ 3 → (show (after w cs) party m .1 ≡ refuse NotHeld) × (give (after w cs) party m .1 ≡ refuse NotHeld))
+    → ((m party : ℕ) (e : Lease) → Out (told w cs .leases) m e → e .slip ≡ true → party ≤ 3
+    → (show (after w cs) party m .1 ≡ refuse NotHeld) × (give (after w cs) party m .1 ≡ refuse NotHeld))
     × ((s : Slip) → (s .bench ≡ number → ⊥) → (show-slip (after w cs) s .1 ≡ refuse NotHeld) × (give-slip (after w cs) s .1 ≡ refuse NotHeld))
 
 -- A lease that is out was taken in a lane that was admitted before now: head and slot of admission tell that lane from
@@ -136,14 +141,15 @@ ServesTicked now L (Failed h i a f) = Earliest now L h i × (a ≡ suc (L h .fai
 -- what a tick's answer says of the lanes before it
 abbrev pub Serves : ℕ → (ℕ → Lane) → Answer → Type 0
 Serves now L (ticked x) = ServesTicked now L x
-Serves now L (refused ns) = Unit {0}
+Serves now L (refused ns) = now ≡ 1000000
 Serves now L done = ⊥
 Serves now L (leased m) = ⊥
 Serves now L (slipped s) = ⊥
 Serves now L (shown b) = ⊥
 Serves now L (reported r) = ⊥
 
--- The read of each slot is that of the earliest deadline, ties to the lower head; the slot is idle where no lane is due.
+-- The read of each slot is that of the earliest deadline, ties to the lower head; the slot is idle only where no lane is
+-- due, and a tick is refused only at the last slot.
 abbrev pub ReadsEarliestDeadline : ℕ → List Block → List ℕ → Type 0
 ReadsEarliestDeadline number disk pool =
     let w : World = new number disk pool in
@@ -157,14 +163,17 @@ ready t ls j =
 
 -- Tick's choice is that of the deadline-driven rule.
 abbrev pub ChoiceIsTheRule : Type 0
-ChoiceIsTheRule = (t : ℕ) (ls : List (Option Lane)) → Cases (choice t ls) ((j : ℕ) → t < ready t ls j) (λ c. Choice t (length ls) (ready t ls) (λ j. next-deadline (lane-at ls j)) (c .0))
+ChoiceIsTheRule = (t : ℕ) (ls : List (Option Lane))
+    → Cases (choice t ls) ((j : ℕ) → t < ready t ls j) (λ c. Choice t (length ls) (ready t ls) (λ j. next-deadline (lane-at ls j)) (c .0))
 
 -- The tally of attempts is the number of ticks that answered read or failed, and that of failed attempts the number of
 -- those that answered failed.
 abbrev pub TalliesCountTicks : ℕ → List Block → List ℕ → Type 0
 TalliesCountTicks number disk pool =
     let w : World = new number disk pool in
-    (cs : List Call) → (after w cs .attempts ≡ tally (of-tick attempt-made) (answers w cs)) × (after w cs .failures ≡ tally (of-tick attempt-failed) (answers w cs))
+    (cs : List Call)
+    → (after w cs .attempts ≡ tally (of-tick attempt-made) (answers w cs))
+    × (after w cs .failures ≡ tally (of-tick attempt-failed) (answers w cs))
 
 -- REFUSALS AND BUFFERS
 
@@ -177,17 +186,22 @@ abbrev pub LooksAlterNothing : Type 0
 LooksAlterNothing = (w : World)
     → ((party m : ℕ) → show w party m .0 ≡ w) × ((s : Slip) → show-slip w s .0 ≡ w) × ((h : ℕ) → report w h .0 ≡ w)
 
--- No two blocks that are there lie in the same buffer; where one lies in the buffer of a lease that is out, the lease is
--- on that very block; and a take answers a lease number that was not out.
+-- no two blocks that are there lie in one buffer
+abbrev pub BlocksApart : Told → Type 0
+BlocksApart t = (h g i j : ℕ) → there (t .now) (lane-of t h) i ≡ true → there (t .now) (lane-of t g) j ≡ true
+    → buffer-of (lane-of t h) i ≡ buffer-of (lane-of t g) j → (h ≡ g) × (i ≡ j)
+
+-- where a block that is there lies in the buffer of a lease that is out, the lease was taken in that lane on that block
+abbrev pub LeasesOnTheirBlocks : Told → Type 0
+LeasesOnTheirBlocks t = (m h i : ℕ) (e : Lease) → Out (t .leases) m e → there (t .now) (lane-of t h) i ≡ true
+    → buffer-of (lane-of t h) i ≡ e .buffer → (e .head ≡ h) × (e .admitted ≡ lane-of t h .admitted) × (e .index ≡ i)
+
+-- Neither buffers nor leases are shared: besides, a take answers a lease number that was not out.
 abbrev pub NothingShared : ℕ → List Block → List ℕ → Type 0
 NothingShared number disk pool =
     let w : World = new number disk pool in
-    (cs : List Call)
-    → let t : Told = told w cs in
-    ((h g i j : ℕ) → there (t .now) (lane-of t h) i ≡ true → there (t .now) (lane-of t g) j ≡ true → buffer-of (lane-of t h) i ≡ buffer-of (lane-of t g) j → (h ≡ g) × (i ≡ j))
-    × ((m h i : ℕ) (e : Lease) → Out (t .leases) m e → there (t .now) (lane-of t h) i ≡ true → buffer-of (lane-of t h) i ≡ e .buffer
-    → (e .head ≡ h) × (e .admitted ≡ lane-of t h .admitted) × (e .index ≡ i))
-    × ((h i party m : ℕ) (slip : Bool) → take-block (after w cs) h i party slip .1 ≡ lease-told number m party slip → getD (t .leases) m None ≡ None)
+    (cs : List Call) → BlocksApart (told w cs) × LeasesOnTheirBlocks (told w cs)
+    × ((h i party m : ℕ) (slip : Bool) → take-block (after w cs) h i party slip .1 ≡ lease-told number m party slip → getD (told w cs .leases) m None ≡ None)
 
 -- what the call that performs a list of calls on a new bench promises
 pub record BenchLaws (number : ℕ) (disk : List Block) (pool : List ℕ) : Type 0 where
