@@ -30,9 +30,10 @@ use Rattle.history.proofs.Checks.{checked-cases, passes, Passes, Granted, call
 use Rattle.history.proofs.Choosing.{Chosen, Idle, chosen, deadline-up}
 use Rattle.history.proofs.Histories.{new-sound, call-sound, after-sound, after-onward}
 use Rattle.history.proofs.Passing.{aged-at}
+use Rattle.history.proofs.Runs.{after-++}
+use Rattle.history.proofs.Serving.{charge-at}
 use Rattle.history.proofs.Sound.{IsLive, Steady, Sound, set-at}
 use Rattle.history.proofs.Telling.{view, told-is}
-use Rattle.history.proofs.Serving.{charge-at}
 use Rattle.history.proofs.Tracking.{Tracked, enough-more, enough-at-most, owed-some, tracked-other, tracked-read, tracked-failed}
 
 -- a live lane that no lease holds up and whose last burn goes on stays as it is
@@ -207,10 +208,6 @@ count-vacant : (es : List (Option Lease)) → count-out es < length es → vacan
 count-vacant [] e = e
 count-vacant (None ∷ es) e = omega arith
 count-vacant (Some x ∷ es) e = omega (arith, count-vacant es (omega arith))
-
-after-++ : (w : World) (xs ys : List Call) → after w (xs ++ ys) ≡ after (after w xs) ys
-after-++ w [] ys = refl
-after-++ w (x ∷ xs) ys = after-++ (call w x .0) xs ys
 
 -- a lane is tracked from its admission on, if no block of it has more failures to come than its spare attempts
 begun-tracked : (w : World) (o : Asked) → o .head < length (w .lanes) → ((i : ℕ) → i < o .timing .count → AtMost (o .timing .spare) (block-at (w .disk) (o .first + i) .coming))

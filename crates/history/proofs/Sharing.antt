@@ -17,7 +17,7 @@ use Rattle.history.specs.declared.Lane.{Lane}
 use Rattle.history.specs.declared.Lease.{Lease}
 use Rattle.history.specs.Bench.{World, Out, is-live, lane-at, burn-end, buffer-of}
 use Rattle.history.specs.Calls.{Slip, refused, new, there, vacant, lease-told, take-block}
-use Rattle.history.specs.Told.{takes, after, Told, lane-of}
+use Rattle.history.specs.Told.{takes, after, Told}
 use Rattle.history.specs.Laws.{Start, BlocksApart, LeasesOnTheirBlocks, NothingShared}
 use Rattle.history.proofs.Buffers.{places-differ}
 use Rattle.history.proofs.Checks.{call-cases}
