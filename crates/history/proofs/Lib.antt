@@ -20,3 +20,4 @@ pub mod Slips
 pub mod Sharing
 pub mod Laws
 pub mod Trials
+pub mod Faults

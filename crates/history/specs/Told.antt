@@ -136,6 +136,21 @@ tell-all t (c ∷ cs) (a ∷ as′) = tell-all (tell t c a) cs as′
 abbrev pub told : World → List Call → Told
 told w cs = tell-all (nothing (w .disk)) cs (answers w cs)
 
+-- the fault that a tick's answer tells, if its read failed
+abbrev pub fault-in : Ticked → Option Fault
+fault-in Idle = None
+fault-in (Read h i) = None
+fault-in (Failed h i a f) = Some f
+
+abbrev pub fault-told : Answer → Option Fault
+fault-told (ticked x) = fault-in x
+fault-told (refused ns) = None
+fault-told done = None
+fault-told (leased m) = None
+fault-told (slipped s) = None
+fault-told (shown b) = None
+fault-told (reported r) = None
+
 -- the answers of which p holds
 abbrev pub tally : (Answer → Bool) → List Answer → ℕ
 tally p [] = 0
