@@ -35,7 +35,7 @@ use Rattle.history.proofs.Checks.{Granted}
 use Rattle.history.proofs.Choosing.{Idle, Chosen, chosen, deadline-up}
 use Rattle.history.proofs.Passing.{passed-sound}
 use Rattle.history.proofs.Serving.{Early, idle-fits, served-fits}
-use Rattle.history.proofs.Sound.{IsLive, Steady, SameBytes, Base, Sound, put-lane}
+use Rattle.history.proofs.Sound.{IsLive, Puts, Steady, SameBytes, Base, Sound, put-lane}
 
 -- a read alters no bytes
 same-after : (d m : List Block) (x : ℕ) → SameBytes d m → SameBytes d (read-after m x 64)
@@ -82,28 +82,25 @@ failed-as w k l l′ = record {
 }
 
 -- a lane moves on in its order, with its buffers
-moves : (d : List Block) (w : World) (b : Base d w) (k : ℕ) (i f : ℕ) (s : Stage) (pool′ : List ℕ) (disk′ : List Block) (x y : ℕ) → k < 8
+moves : (d : List Block) (w : World) (b : Base d w) (k : ℕ) (i f : ℕ) (s : Stage) (pool′ : List ℕ) → k < 8
     → (is-live s ≡ true → IsLive (lane-at (w .lanes) k)) → lane-at (w .lanes) k .next ≤ i
-    → (is-live s ≡ true → Steady d (w .now) pool′ k (moved (lane-at (w .lanes) k) i f s)) → length pool′ ≡ 2048 → SameBytes d disk′
+    → (is-live s ≡ true → Steady d (w .now) pool′ k (moved (lane-at (w .lanes) k) i f s)) → length pool′ ≡ 2048
     → ((h : ℕ) → (h ≡ k → ⊥) → IsLive (lane-at (w .lanes) h) → (j : ℕ) → j < lane-at (w .lanes) h .order .timing .depth
     → bytes-in pool′ (getD (lane-at (w .lanes) h .buffers) j 0) ≡ bytes-in (w .pool) (getD (lane-at (w .lanes) h .buffers) j 0))
     → ((m : ℕ) (e : Lease) → Out (w .leases) m e → bytes-in pool′ (e .buffer) ≡ bytes-in (w .pool) (e .buffer))
-    → Base d (record {
-      number = w .number;
-      now = w .now;
-      lanes = set (w .lanes) k (Some (moved (lane-at (w .lanes) k) i f s));
-      leases = w .leases;
-      disk = disk′;
-      pool = pool′;
-      attempts = x;
-      failures = y;
-    })
-moves d w b k i f s pool′ disk′ x y in′ was up steady =
-    put-lane d w b k (Some (moved (lane-at (w .lanes) k) i f s)) pool′ disk′ x y in′ steady
-    (λ m n al bl. b .apart k k m n (was al) (was bl)) (λ g m n al bl. b .apart k g m n (was al) bl)
-    (λ m e out j alive jj g.
-    let r = b .leases m e out .guarded k j (was alive) jj g in
-    record { head = r .head; admitted = r .admitted; place = r .place; read = omega (arith, r .read); burning = r .burning })
+    → Puts d w k (moved (lane-at (w .lanes) k) i f s) pool′
+moves d w b k i f s pool′ in′ was up steady size others leased = record {
+  place = in′;
+  steady = steady;
+  once = λ m n al bl. b .apart k k m n (was al) (was bl);
+  apart = λ g m n al bl. b .apart k g m n (was al) bl;
+  guards = λ m e out j alive jj g.
+      let r = b .leases m e out .guarded k j (was alive) jj g in
+      record { head = r .head; admitted = r .admitted; place = r .place; read = omega (arith, r .read); burning = r .burning };
+  size = size;
+  lanes-kept = others;
+  leases-kept = leased;
+}
 
 module _ (d : List Block) (w : World) (b : Base d w) (k : ℕ) (is : due (w .now) (lane-at (w .lanes) k) ≡ true) where
   abbrev l : Lane
@@ -129,17 +126,19 @@ module _ (d : List Block) (w : World) (b : Base d w) (k : ℕ) (is : due (w .now
 
   failed-base : (f : Fault) → Base d (failed-as w k l (on-live l (FailedAttempt f)))
   failed-base f =
-      let s : Steady d (w .now) (w .pool) k l = steady in
-      moves d w b k (l .next) (suc (l .failed)) (cond (ltb (l .failed) (l .order .timing .spare)) (l .stage) (Faulted f)) (w .pool) _ _ _ small (λ _. alive) (omega arith)
+      let s : Stage = cond (ltb (l .failed) (l .order .timing .spare)) (l .stage) (Faulted f) in
+      put-lane d w b k (Some (on-live l (FailedAttempt f))) (w .pool)
+      (moves d w b k (l .next) (suc (l .failed)) s (w .pool) small (λ _. alive) (omega arith)
       (λ still. record {
-        settled = s .settled;
-        upto = s .upto;
-        released = s .released;
-        bytes = s .bytes;
+        settled = steady .settled;
+        upto = steady .upto;
+        released = steady .released;
+        bytes = steady .bytes;
         spared = cond-both (ltb (l .failed) (l .order .timing .spare)) (l .stage) (Faulted f) (λ x. is-live x ≡ true → suc (l .failed) ≤ l .order .timing .spare)
             (λ e _. ltb-true _ _ e) (λ _ z. absurd (both-ways false refl z)) still;
       })
-      (b .pool) (same-after d (w .disk) _ (b .disk)) (λ _ _ _ _ _. refl) (λ _ _ _. refl)
+      (b .pool) (λ _ _ _ _ _. refl) (λ _ _ _. refl))
+      _ _ _ (same-after d (w .disk) _ (b .disk))
 
   -- an earlier block that still burns lies elsewhere
   elsewhere : (i : ℕ) → i < l .next → w .now < burn-end (l .order .timing) i → i % l .order .timing .depth ≡ l .next % l .order .timing .depth → ⊥
@@ -196,11 +195,12 @@ module _ (d : List Block) (w : World) (b : Base d w) (k : ℕ) (is : due (w .now
 
   done-base : Base d (read-as w k l (on-live l BlockRead))
   done-base =
-      moves d w b k (suc (l .next)) 0 (l .stage) (written (w .pool) x ks) _ _ _ small (λ e. e) (omega arith) (λ _. read-steady)
-      (length-written (w .pool) ks x inside full ∙ b .pool) (same-after d (w .disk) _ (b .disk))
+      put-lane d w b k (Some (on-live l BlockRead)) (written (w .pool) x ks)
+      (moves d w b k (suc (l .next)) 0 (l .stage) (written (w .pool) x ks) small (λ e. e) (omega arith) (λ _. read-steady) (length-written (w .pool) ks x inside full ∙ b .pool)
       (λ h ne also j jj. others-kept _ (b .lanes h also .settled .placed j jj) (λ e. ne (b .apart h k j (l .next % n) also alive jj (place-small (l .next)) e .0)))
       (λ m e out. others-kept (e .buffer) (b .leases m e out .placed)
-      (λ q. let g = b .leases m e out .guarded k (l .next % n) alive (place-small (l .next)) (sym q) in elsewhere (e .index) (g .read) (g .burning) (g .place)))
+      (λ q. let g = b .leases m e out .guarded k (l .next % n) alive (place-small (l .next)) (sym q) in elsewhere (e .index) (g .read) (g .burning) (g .place))))
+      _ _ _ (same-after d (w .disk) _ (b .disk))
 
 pub tick-sound : (d : List Block) (w : World) (f : Fault) → Sound d w → Granted (Sound d) w (ticks f)
 tick-sound d w f s = λ _. serve (choice (w .now) (w .lanes)) (chosen (w .now) (w .lanes))
