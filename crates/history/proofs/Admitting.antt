@@ -1,5 +1,5 @@
 -- A bench stays sound where a lane is admitted or closed.
-use mathlib.Core.Path.{_≡_, refl, sym, subst, ap, _∙_}
+use mathlib.Core.Path.{_≡_, refl, sym, subst, _∙_}
 use mathlib.Core.Bool.{true, false}
 use mathlib.Core.List.{List, [], _∷_, _++_}
 use Prim.Native.Nat.{ℕ, _+_, _-_, _≤_, _<_}
@@ -13,7 +13,6 @@ use Rattle.std.proofs.shelf.Tests.{both-ways, ltb-false}
 use Rattle.disk.specs.Meaning.{Block}
 use Rattle.windows.specs.Windows.{Window, NoneOverfull, count, since, tried, FirstOverfull}
 use Rattle.windows.specs.Lanes as work
-use Rattle.windows.proofs.Weights.{count-++}
 use Rattle.windows.proofs.Find.{decision}
 use Rattle.schedule.specs.Orders.{lane}
 use Rattle.history.specs.declared.Asked.{Asked}
@@ -24,7 +23,7 @@ use Rattle.history.specs.Told.{admits, closes}
 use Rattle.history.proofs.Buffers.{free-rises, free-small, free-of-lanes, free-of-leases}
 use Rattle.history.proofs.Charges.{whole, charge, charges, windows-of, charged-in, charged-with-works, fits-less, count-set, count-since-++}
 use Rattle.history.proofs.Checks.{Passes, Granted, all-split}
-use Rattle.history.proofs.Sound.{IsLive, Base, Sound, put-lane}
+use Rattle.history.proofs.Sound.{IsLive, Steady, Puts, Base, Sound, put-lane}
 
 none-case : {A : Type 0} (N : Type 0) (P : A → Type 0) (x : Option A) → isSome x ≡ false → Cases x N P → N
 none-case N P None e c = c
@@ -54,9 +53,17 @@ module _ (d : List Block) (w : World) (s : Sound d w) where
 
   closed-sound : (k : ℕ) → k < 8 → Sound d (closed w k)
   closed-sound k in′ = record {
-    base = put-lane d w b k None (w .pool) (w .disk) (w .attempts) (w .failures) in′
-        (λ a. absurd (no-live a)) (λ i j a. absurd (no-live a)) (λ g i j a. absurd (no-live a)) (λ m e out j a. absurd (no-live a))
-        (b .pool) (b .disk) (λ _ _ _ _ _. refl) (λ _ _ _. refl);
+    base = put-lane d w b k None (w .pool) (record {
+      place = in′;
+      steady = λ a. absurd (no-live a);
+      once = λ i j a. absurd (no-live a);
+      apart = λ g i j a. absurd (no-live a);
+      guards = λ m e out j a. absurd (no-live a);
+      size = b .pool;
+      lanes-kept = λ _ _ _ _ _. refl;
+      leases-kept = λ _ _ _. refl;
+    })
+        (w .disk) (w .attempts) (w .failures) (b .disk);
     fits = fits-less _ (charged-in (w .now) (w .lanes)) (λ l h. omega (arith, count-charges (w .now) l h (w .lanes) k None (omega (arith, b .heads)))) (s .fits);
   }
 
@@ -81,11 +88,10 @@ module _ (d : List Block) (w : World) (s : Sound d w) where
     long : o .timing .depth ≤ length (l .buffers)
     long = omega (arith, length-append (take (o .timing .depth) frees) (replicate (8 - o .timing .depth) 0), length-take-le (o .timing .depth) frees enough)
 
-    admitted-base : Base d (admitted w o)
-    admitted-base =
+    steady : Steady d (w .now) (w .pool) (o .head) l
+    steady =
         let room : o .timing .depth ≤ length frees = enough in
-        put-lane d w b (o .head) (Some l) (w .pool) (w .disk) (w .attempts) (w .failures) (valid .head)
-        (λ _. record {
+        record {
           settled = record {
             valid = valid;
             home = refl;
@@ -98,12 +104,24 @@ module _ (d : List Block) (w : World) (s : Sound d w) where
           spared = omega arith;
           released = λ i e. absurd (omega arith);
           bytes = λ i e. absurd (omega arith);
-        })
-        (λ i j _ _ ii jj same. (refl, grind (arith, fresh i ii, fresh j jj, free-rises (w .lanes) (w .leases) i j, free-rises (w .lanes) (w .leases) j i)))
-        (λ g i j _ alive ii jj same.
-        absurd (free-of-lanes (w .lanes) (w .leases) i g j (omega arith) alive jj (b .lanes g alive .settled .long) (sym same ∙ fresh i ii)))
-        (λ m e out j _ jj same. absurd (free-of-leases (w .lanes) (w .leases) j m e (omega arith) out (sym (fresh j jj) ∙ same)))
-        (b .pool) (b .disk) (λ _ _ _ _ _. refl) (λ _ _ _. refl)
+        }
+
+    puts : Puts d w (o .head) l (w .pool)
+    puts =
+        let room : o .timing .depth ≤ length frees = enough in
+        record {
+          place = valid .head;
+          steady = λ _. steady;
+          once = λ i j _ _ ii jj same. (refl, grind (arith, fresh i ii, fresh j jj, free-rises (w .lanes) (w .leases) i j, free-rises (w .lanes) (w .leases) j i));
+          apart = λ g i j _ alive ii jj same. absurd (free-of-lanes (w .lanes) (w .leases) i g j (omega arith) alive jj (b .lanes g alive .settled .long) (sym same ∙ fresh i ii));
+          guards = λ m e out j _ jj same. absurd (free-of-leases (w .lanes) (w .leases) j m e (omega arith) out (sym (fresh j jj) ∙ same));
+          size = b .pool;
+          lanes-kept = λ _ _ _ _ _. refl;
+          leases-kept = λ _ _ _. refl;
+        }
+
+    admitted-base : Base d (admitted w o)
+    admitted-base = put-lane d w b (o .head) (Some l) (w .pool) puts (w .disk) (w .attempts) (w .failures) (b .disk)
 
     admitted-fits : isSome (tried (charged-with (w .now) (w .lanes) o)) ≡ false → NoneOverfull (charged-in (w .now) (admitted w o .lanes))
     admitted-fits none =

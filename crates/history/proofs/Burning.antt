@@ -21,19 +21,20 @@ use Rattle.history.specs.declared.Event.the-variants.{FailedAttempt, BlockRead
 use Rattle.history.specs.declared.Lane.{Lane}
 use Rattle.history.specs.declared.Lease.{Lease}
 use Rattle.history.specs.declared.Stage.the-variants.{Held, Finished}
-use Rattle.history.specs.Bench.{World, Out, any, is-live, lane-in, lane-at, no-lane, burn-end, free, work}
+use Rattle.history.specs.Bench.{Valid, World, Out, any, is-live, lane-in, lane-at, no-lane, burn-end, free, work}
 use Rattle.history.specs.Calls.{Answer, refused, done, reported, report-of, span-told, new, happens, new-lane, admitted, admit, admit-checks, charged-with, due, next-block, read-done, read-failed, holds-up, all-aged, passed, served, there, vacant, lease-told, take-block, take-checks, closed, close, close-checks}
 use Rattle.history.specs.Told.{Call, admits, ticks, takes, gives, gives-slip, closes, call, after, granted, told}
-use Rattle.history.specs.Laws.{Start, AtMost, count-out, TakenWhileItBurns}
+use Rattle.history.specs.Laws.{Start, AtMost, count-out, SpareEnough, NeverClosed, NeverHeld, TakenWhileItBurns}
 use Rattle.history.proofs.Charges.{charge, charges, on-time}
 use Rattle.history.proofs.Checks.{checked-cases, passes, Passes, Granted, call-keeps}
 use Rattle.history.proofs.Choosing.{Chosen, Idle, chosen, deadline-up}
 use Rattle.history.proofs.Histories.{new-sound, call-sound, after-sound, after-onward}
 use Rattle.history.proofs.Passing.{aged-at}
+use Rattle.history.proofs.Runs.{after-++}
+use Rattle.history.proofs.Serving.{charge-at}
 use Rattle.history.proofs.Sound.{IsLive, Steady, Sound, set-at}
 use Rattle.history.proofs.Telling.{view, told-is}
-use Rattle.history.proofs.Ticking.{charge-at}
-use Rattle.history.proofs.Tracking.{Enough, Tracked, enough-more, enough-at-most, owed-some, tracked-other, tracked-read, tracked-failed}
+use Rattle.history.proofs.Tracking.{Tracked, enough-more, enough-at-most, owed-some, tracked-other, tracked-read, tracked-failed}
 
 -- a live lane that no lease holds up and whose last burn goes on stays as it is
 stays : (t : ℕ) (es : List (Option Lease)) (ls : List (Option Lane)) (h : ℕ) → IsLive (lane-at ls h) → any (holds-up t (lane-at ls h)) es ≡ false
@@ -79,15 +80,16 @@ Unclosed h w (takes g i party slip) = Unit {0}
 Unclosed h w (gives party m) = Unit {0}
 Unclosed h w (gives-slip x) = Unit {0}
 
+-- the lane of order o, admitted at slot a, is tracked
+abbrev TrackedIn : Asked → ℕ → World → Type 0
+TrackedIn o a w = Tracked o a (w .disk) (lane-at (w .lanes) (o .head))
+
+-- while its leases come back in time and its last burn goes on
+abbrev Goes : Asked → ℕ → World → Type 0
+Goes o a w = Calm o a w → w .now < deadline (o .timing) (o .timing .count) → TrackedIn o a w
+
 module _ (d : List Block) (o : Asked) (a : ℕ) where
-  abbrev TrackedIn : World → Type 0
-  TrackedIn w = Tracked o a (w .disk) (lane-at (w .lanes) (o .head))
-
-  -- while its leases come back in time and its last burn goes on
-  abbrev Goes : World → Type 0
-  Goes w = Calm o a w → w .now < deadline (o .timing) (o .timing .count) → TrackedIn w
-
-  tracked-passed : (w : World) → TrackedIn w → Goes (passed w)
+  tracked-passed : (w : World) → TrackedIn o a w → Goes o a (passed w)
   tracked-passed w t calm on =
       let l : Lane = lane-at (w .lanes) (o .head) in
       let none = any-false (holds-up (suc (w .now)) l) (w .leases) (λ m e out. in-time e (calm m e out)) in
@@ -101,16 +103,16 @@ module _ (d : List Block) (o : Asked) (a : ℕ) where
           let z′ = subst (λ o. burn-end (o .timing) (e .index) ≡ suc (w .now)) (t .order) z in
           omega (arith, early (same ∙ ap (λ o. o .head) (t .order)) (same′ ∙ t .admitted)))
 
-  module _ (w : World) (s : Sound d w) (t : TrackedIn w) where
+  module _ (w : World) (s : Sound d w) (t : TrackedIn o a w) where
     tracked-set : (k : ℕ) (x : Option Lane) → k < 8 → (o .head ≡ k → ⊥) → Tracked o a (w .disk) (lane-at (set (w .lanes) k x) (o .head))
     tracked-set k x in′ ne =
         set-at (λ y. Tracked o a (w .disk) (lane-in y)) (w .lanes) k (o .head) x None (omega (arith, s .base .heads)) (λ q. absurd (ne q)) (λ _. t)
 
-    tracked-served : (f : Fault) (c : Option (ℕ × ℕ)) → Cases c (Idle (w .now) (w .lanes)) (Chosen (w .now) (w .lanes)) → Goes (served w f c .0)
+    tracked-served : (f : Fault) (c : Option (ℕ × ℕ)) → Cases c (Idle (w .now) (w .lanes)) (Chosen (w .now) (w .lanes)) → Goes o a (served w f c .0)
     tracked-served f None q = tracked-passed w t
     tracked-served f (Some (k, D)) q =
         let l : Lane = lane-at (w .lanes) k in
-        cond-both (eqb (read-number (w .disk) (next-block l) 64) 0) _ _ (λ (r : World × Answer). Goes (passed (r .0)))
+        cond-both (eqb (read-number (w .disk) (next-block l) 64) 0) _ _ (λ (r : World × Answer). Goes o a (passed (r .0)))
         (λ _. tracked-passed (read-done w k l) (moves (happens l BlockRead)
         (λ e. subst (λ h. Tracked o a (read-after (w .disk) (next-block (lane-at (w .lanes) h)) 64) (happens (lane-at (w .lanes) h) BlockRead)) e
         (tracked-read o a (w .disk) (lane-at (w .lanes) (o .head)) t))))
@@ -134,10 +136,10 @@ module _ (d : List Block) (o : Asked) (a : ℕ) where
             set-at (λ y. Tracked o a (read-after (w .disk) (next-block (lane-at (w .lanes) k)) 64) (lane-in y)) (w .lanes) k (o .head) (Some l′) None (q .place) mine
             (λ _. tracked-other o a (w .disk) (lane-at (w .lanes) (o .head)) t (next-block (lane-at (w .lanes) k)))
 
-    call-tracked : (c : Call) → Unclosed (o .head) w c → Goes (call w c .0)
-    call-tracked c u = call-keeps Goes w c (λ _ _. t) (granted-tracked c u)
+    call-tracked : (c : Call) → Unclosed (o .head) w c → Goes o a (call w c .0)
+    call-tracked c u = call-keeps (Goes o a) w c (λ _ _. t) (granted-tracked c u)
       where
-        granted-tracked : (c : Call) → Unclosed (o .head) w c → Granted Goes w c
+        granted-tracked : (c : Call) → Unclosed (o .head) w c → Granted (Goes o a) w c
         granted-tracked (admits n v) u = λ es _ _.
             tracked-set (n .head) (Some (new-lane (w .now) (free (w .lanes) (w .leases)) n)) (v .head)
             (λ q. both-ways _ (es .0) (subst (λ h. isSome (getD (w .lanes) h None) ≡ true) q (live-some _ (t .alive))))
@@ -147,9 +149,9 @@ module _ (d : List Block) (o : Asked) (a : ℕ) where
         granted-tracked (gives-slip x) u = λ es _ _. t
         granted-tracked (closes h) u = λ es _ _. tracked-set h None (omega (arith, ltb-false 7 h (es .0))) (λ q. u (sym q) (ap (λ r. granted (r .1)) (close-passes w h es)))
 
-  after-tracked : (w : World) (cs : List Call) → Sound d w → TrackedIn w
+  after-tracked : (w : World) (cs : List Call) → Sound d w → TrackedIn o a w
       → ((x y : List Call) → cs ≡ x ++ closes (o .head) ∷ y → granted (close (after w x) (o .head) .1) ≡ true → ⊥)
-      → ((x y : List Call) → cs ≡ x ++ y → Calm o a (after w x)) → after w cs .now < deadline (o .timing) (o .timing .count) → TrackedIn (after w cs)
+      → ((x y : List Call) → cs ≡ x ++ y → Calm o a (after w x)) → after w cs .now < deadline (o .timing) (o .timing .count) → TrackedIn o a (after w cs)
   after-tracked w [] s t unclosed calm on = t
   after-tracked w (c ∷ cs) s t unclosed calm on =
       let n : World = call w c .0 in
@@ -166,7 +168,7 @@ module _ (d : List Block) (o : Asked) (a : ℕ) where
       first (gives-slip x) u = tt
 
   -- a tracked lane's block is there while it burns
-  is-there : (w : World) (i : ℕ) → Sound d w → TrackedIn w → i < o .timing .count → deadline (o .timing) i ≤ w .now → w .now < burn-end (o .timing) i → there (w .now) (lane-at (w .lanes) (o .head)) i ≡ true
+  is-there : (w : World) (i : ℕ) → Sound d w → TrackedIn o a w → i < o .timing .count → deadline (o .timing) i ≤ w .now → w .now < burn-end (o .timing) i → there (w .now) (lane-at (w .lanes) (o .head)) i ≡ true
   is-there w i s t lt from to =
       let l : Lane = lane-at (w .lanes) (o .head) in
       let st = s .base .lanes (o .head) (t .alive) in
@@ -207,52 +209,83 @@ count-vacant [] e = e
 count-vacant (None ∷ es) e = omega arith
 count-vacant (Some x ∷ es) e = omega (arith, count-vacant es (omega arith))
 
-after-++ : (w : World) (xs ys : List Call) → after w (xs ++ ys) ≡ after (after w xs) ys
-after-++ w [] ys = refl
-after-++ w (x ∷ xs) ys = after-++ (call w x .0) xs ys
+-- a lane is tracked from its admission on, if no block of it has more failures to come than its spare attempts
+begun-tracked : (w : World) (o : Asked) → o .head < length (w .lanes) → ((i : ℕ) → i < o .timing .count → AtMost (o .timing .spare) (block-at (w .disk) (o .first + i) .coming))
+    → TrackedIn o (w .now) (admitted w o)
+begun-tracked w o in′ spare =
+    set-at (λ y. Tracked o (w .now) (w .disk) (lane-in y)) (w .lanes) (o .head) (o .head) (Some l) None in′
+    (λ _. record { alive = refl; order = refl; admitted = refl; enough = λ j _ e. enough-more _ (1 + o .timing .spare) _ (fresh-owed j) (enough-at-most (o .timing .spare) _ (spare j e)) })
+    (λ ne. absurd (ne refl))
+  where
+    l : Lane
+    l = new-lane (w .now) (free (w .lanes) (w .leases)) o
+
+    fresh-owed : (j : ℕ) → 1 + o .timing .spare ≤ owed (work (new-lane (w .now) (free (w .lanes) (w .leases)) o)) j
+    fresh-owed j = grind arith
+
+-- take of a block that is there is granted, if a lease number is free
+take-granted : (d : List Block) (w : World) (h i party : ℕ) (slip : Bool) → Sound d w → h < 8 → i < 4096 → party ≤ 3 → isSome (getD (w .lanes) h None) ≡ true
+    → there (w .now) (lane-at (w .lanes) h) i ≡ true → count-out (w .leases) < 16 → take-block w h i party slip .1 ≡ lease-told (w .number) (vacant (w .leases)) party slip
+unfolding take-block
+take-granted d w h i party slip s hh ii low lane is few =
+    let free : vacant (w .leases) < 16 = omega (arith, count-vacant (w .leases) (omega (arith, s .base .numbers)), s .base .numbers) in
+    ap (λ r. r .1) (passes w (take-checks w h i party) _ (
+      or-from _ _ (le-ltb 7 h (omega arith)) (or-from _ _ (le-ltb 4095 i (omega arith)) (le-ltb 3 party low)),
+      (not-from-true _ lane, (not-from-true _ is, (lt-leb 16 _ free, tt))),
+    ))
+
+-- the lane of order o, admitted after the calls `before`
+module _ (number : ℕ) (disk : List Block) (pool : List ℕ) (start : Start disk pool) (before : List Call) (o : Asked) (v : Valid o) (is-done : admit (after (new number disk pool) before) o .1 ≡ done) where
+  abbrev w : World
+  w = new number disk pool
+
+  abbrev b : World
+  b = after w before
+
+  abbrev n : World
+  n = admit b o .0
+
+  b-sound : Sound disk b
+  b-sound = after-sound disk w before (new-sound number disk pool start)
+
+  n-sound : Sound disk n
+  n-sound = call-sound disk b (admits o v) b-sound
+
+  here : (x : List Call) → after w (before ++ admits o v ∷ x) ≡ after n x
+  here x = after-++ w before (admits o v ∷ x)
+
+  seen : (x : List Call) → told w (before ++ admits o v ∷ x) ≡ view (after n x)
+  seen x = told-is number disk pool (before ++ admits o v ∷ x) ∙ ap view (here x)
+
+  number-is : (x : List Call) → after n x .number ≡ number
+  number-is x = after-onward n x .0 ∙ after-onward b (admits o v ∷ []) .0 ∙ after-onward w before .0
+
+  begun : SpareEnough number disk pool before o v → TrackedIn o (b .now) n
+  begun spare =
+      subst (TrackedIn o (b .now)) (sym (admit-done b o is-done))
+      (begun-tracked b o (omega (arith, v .head, b-sound .base .heads))
+      (λ i e. subst (λ t. AtMost (o .timing .spare) (block-at (t .disk) (o .first + i) .coming)) (told-is number disk pool before) (spare i e)))
+
+  tracked : (cs : List Call) → SpareEnough number disk pool before o v → NeverClosed number disk pool before o v cs → NeverHeld number disk pool before o v cs
+      → after n cs .now < deadline (o .timing) (o .timing .count) → TrackedIn o (b .now) (after n cs)
+  tracked cs spare unclosed calm =
+      after-tracked disk o (b .now) n cs n-sound (begun spare)
+      (λ x y e g. unclosed x y e (subst (λ u. granted (close u (o .head) .1) ≡ true) (sym (here x)) g))
+      (λ x y e m l out head adm.
+      subst (λ u. u .now < burn-end (o .timing) (l .index)) (seen x)
+      (calm x y e m l (subst (λ u. Out (u .leases) m l) (sym (seen x)) out) head (adm ∙ sym (ap (λ u. u .now) (told-is number disk pool before)))))
 
 pub taken-law : (number : ℕ) (disk : List Block) (pool : List ℕ) → Start disk pool → TakenWhileItBurns number disk pool
-unfolding take-block
-taken-law number disk pool start before o v cs admits-it spare unclosed calm i party slip lt low from to few =
-    let w : World = new number disk pool in
-    let b : World = after w before in
-    let n : World = admit b o .0 in
-    let z : World = after n cs in
-    let sb : Sound disk b = after-sound disk w before (new-sound number disk pool start) in
-    let sn : Sound disk n = call-sound disk b (admits o v) sb in
-    let sz : Sound disk z = after-sound disk n cs sn in
-    let here : (x : List Call) → after w (before ++ admits o v ∷ x) ≡ after n x = λ x. after-++ w before (admits o v ∷ x) in
-    let seen : (x : List Call) → told w (before ++ admits o v ∷ x) ≡ view (after n x) = λ x. told-is number disk pool (before ++ admits o v ∷ x) ∙ ap view (here x) in
-    let spare′ : (j : ℕ) → j < o .timing .count → Enough (block-at (b .disk) (o .first + j) .coming) (1 + o .timing .spare) =
-    λ j e. enough-at-most (o .timing .spare) _
-    (subst (λ t. AtMost (o .timing .spare) (block-at (t .disk) (o .first + j) .coming)) (told-is number disk pool before) (spare j e)) in
-    let begun : Tracked o (b .now) (n .disk) (lane-at (n .lanes) (o .head)) =
-    subst (λ y. Tracked o (b .now) (y .disk) (lane-at (y .lanes) (o .head))) (sym (admit-done b o admits-it))
-    (set-at (λ y. Tracked o (b .now) (b .disk) (lane-in y)) (b .lanes) (o .head) (o .head) (Some (new-lane (b .now) (free (b .lanes) (b .leases)) o)) None (omega (arith, v .head, sb .base .heads))
-    (λ _. record { alive = refl; order = refl; admitted = refl; enough = λ j _ e. enough-more _ (1 + o .timing .spare) _ (fresh-owed b j) (spare′ j e) })
-    (λ ne. absurd (ne refl))) in
-    let now-is : told w (before ++ admits o v ∷ cs) .now ≡ z .now = ap (λ t. t .now) (seen cs) in
-    let from′ : deadline (o .timing) i ≤ z .now = omega arith in
-    let to′ : z .now < burn-end (o .timing) i = omega arith in
-    let t : Tracked o (b .now) (z .disk) (lane-at (z .lanes) (o .head)) =
-    after-tracked disk o (b .now) n cs sn begun
-    (λ x y e g. unclosed x y e (subst (λ u. granted (close u (o .head) .1) ≡ true) (sym (here x)) g))
-    (λ x y e m l out head adm.
-    subst (λ u. u .now < burn-end (o .timing) (l .index)) (seen x)
-    (calm x y e m l (subst (λ u. Out (u .leases) m l) (sym (seen x)) out) head (adm ∙ sym (ap (λ u. u .now) (told-is number disk pool before)))))
-    (omega (arith, deadline-up (o .timing) (i + 1) (o .timing .count) (omega arith))) in
-    let th = is-there disk o (b .now) z i sz t lt from′ to′ in
-    let few′ : count-out (z .leases) < 16 = subst (λ u. count-out (u .leases) < 16) (seen cs) few in
-    let free : vacant (z .leases) < 16 = omega (arith, count-vacant (z .leases) (omega (arith, sz .base .numbers)), sz .base .numbers) in
-    let number-is : z .number ≡ number = after-onward n cs .0 ∙ after-onward b (admits o v ∷ []) .0 ∙ after-onward w before .0 in (
+taken-law number disk pool start before o v cs is-done spare unclosed calm i party slip lt low from to few =
+    let z : World = after (admit (after (new number disk pool) before) o .0) cs in
+    let is = seen number disk pool start before o v is-done cs in
+    let from′ : deadline (o .timing) i ≤ z .now = subst (λ t. deadline (o .timing) i ≤ t .now) is from in
+    let to′ : z .now < burn-end (o .timing) i = subst (λ t. t .now < burn-end (o .timing) i) is to in
+    let sound : Sound disk z = after-sound disk _ cs (n-sound number disk pool start before o v is-done) in
+    let t = tracked number disk pool start before o v is-done cs spare unclosed calm (omega (arith, deadline-up (o .timing) (i + 1) (o .timing .count) (omega arith))) in (
       vacant (z .leases),
-      subst (λ u. take-block u (o .head) i party slip .1 ≡ lease-told number (vacant (z .leases)) party slip) (sym (here cs))
-          (ap (λ r. r .1) (passes z (take-checks z (o .head) i party) _ (
-            or-from _ _ (le-ltb 7 (o .head) (omega (arith, v .head))) (or-from _ _ (le-ltb 4095 i (omega (arith, v .timing .count-most))) (le-ltb 3 party low)),
-            (not-from-true _ (live-some _ (t .alive)), (not-from-true _ th, (lt-leb 16 _ free, tt))),
-          ))
-          ∙ ap (λ k. lease-told k (vacant (z .leases)) party slip) number-is),
+      subst (λ u. take-block u (o .head) i party slip .1 ≡ lease-told number (vacant (z .leases)) party slip) (sym (here number disk pool start before o v is-done cs))
+          (take-granted disk z (o .head) i party slip sound (v .head) (omega (arith, v .timing .count-most)) low (live-some _ (t .alive))
+          (is-there disk o _ z i sound t lt from′ to′) (subst (λ u. count-out (u .leases) < 16) is few)
+          ∙ ap (λ k. lease-told k (vacant (z .leases)) party slip) (number-is number disk pool start before o v is-done cs)),
     )
-  where
-    fresh-owed : (b : World) (j : ℕ) → 1 + o .timing .spare ≤ owed (work (new-lane (b .now) (free (b .lanes) (b .leases)) o)) j
-    fresh-owed b j = grind arith

@@ -9,7 +9,7 @@ use lib.ListN.{length, getD, replicate}
 use Rattle.std.specs.Options.{Cases, isSome}
 use Rattle.std.specs.declared.option.Option.{Option}
 use Rattle.std.specs.declared.option.Option.the-variants.{Some, None}
-use Rattle.std.proofs.shelf.Tests.{both-ways, and-from, or-from, not-from-true, not-from-false, le-ltb, eq-eqb, cond-both}
+use Rattle.std.proofs.shelf.Tests.{both-ways, eqb-true, and-from, or-from, not-from-true, not-from-false, le-ltb, eq-eqb, cond-both}
 use Rattle.refusal.specs.declared.Fault.{Fault}
 use Rattle.refusal.specs.declared.Refusal.the-variants.{Crowded}
 use Rattle.disk.specs.Meaning.{Block, block-at, read-number}
@@ -18,11 +18,11 @@ use Rattle.windows.proofs.Find.{decision}
 use Rattle.history.specs.declared.Asked.{Asked}
 use Rattle.history.specs.declared.Lease.{Lease}
 use Rattle.history.specs.Bench.{World, Out, some-and, lane-at, bytes-in}
-use Rattle.history.specs.Calls.{Slip, Answer, done, shown, refuse, span-told, new, admitted, before-crowded, no-room, charged-with, admit, is-out, buffer-in, beyond, wrong-pool, not-held, no-slip-of, shows, show, show-slip, choice, passed, next-deadline, next-block, served, tick}
-use Rattle.history.specs.Told.{Call, admits, ticks, takes, gives, gives-slip, closes, call, after, lane-of, told}
+use Rattle.history.specs.Calls.{Slip, Answer, done, shown, refuse, span-told, new, admitted, before-crowded, no-room, charged-with, admit, is-out, buffer-in, beyond, wrong-pool, not-held, no-slip-of, shows, show, show-slip, choice, passed, next-deadline, next-block, served, tick, tick-checks}
+use Rattle.history.specs.Told.{Call, admits, ticks, takes, gives, gives-slip, closes, call, after, lane-of}
 use Rattle.history.specs.Laws.{Start, PassesEarlierChecks, Assignable, Earliest, Serves, ReadsEarliestDeadline, CrowdedExactlyWhenNoAssignment, ShownAsOnDisk}
 use Rattle.history.proofs.Admitting.{admit-sound, close-sound}
-use Rattle.history.proofs.Checks.{Passes, passes, call-cases, last-decides, Granted, call-keeps, after-keeps}
+use Rattle.history.proofs.Checks.{Passes, passes, checked-cases, last-decides, Granted, call-keeps, after-keeps}
 use Rattle.history.proofs.Choosing.{Idle, Chosen, chosen}
 use Rattle.history.proofs.Leases.{take-sound, give-sound, give-slip-sound, out-small}
 use Rattle.history.proofs.Sound.{IsLive, Kept, Sound}
@@ -72,18 +72,19 @@ decides : (ws : List Window) (w : World) (r : World) (o : Option (ℕ × ℕ)) �
 decides ws w r None c f g = ((λ a. refl), λ n. absurd (n (f refl)))
 decides ws w r (Some s) c f g = ((λ a. absurd (let e = g (a .0) (a .1) in let z : _≡_ {A = ℕ} 0 1 = cc in omega arith)), λ n. (s .0, s .1, refl, c))
 
-passes-earlier : (w : World) (o : Asked) → PassesEarlierChecks (view w) o → Passes (before-crowded w o)
-passes-earlier w o p = (ap isSome (p .head), (le-ltb _ _ (p .start), (le-ltb _ _ (p .on-disk), (le-ltb _ _ (p .buffers), tt))))
+passes-earlier : (w : World) (o : Asked) (n : ℕ) → length (w .disk) ≡ n → PassesEarlierChecks n (view w) o → Passes (before-crowded w o)
+passes-earlier w o n size p = (ap isSome (p .head), (le-ltb _ _ (p .start), (le-ltb _ _ (omega (arith, p .on-disk)), (le-ltb _ _ (p .buffers), tt))))
 
-pub crowded-law : (number : ℕ) (disk : List Block) (pool : List ℕ) → CrowdedExactlyWhenNoAssignment number disk pool
+pub crowded-law : (number : ℕ) (disk : List Block) (pool : List ℕ) → Start disk pool → CrowdedExactlyWhenNoAssignment number disk pool
 unfolding admit
-crowded-law number disk pool cs o v =
+crowded-law number disk pool start cs o v =
     let w : World = after (new number disk pool) cs in
+    let size = after-sound disk (new number disk pool) cs (new-sound number disk pool start) .base .disk .size in
     let Law : List Window → World × Answer → Type 0 = λ ws r. (Assignable ws → r .1 ≡ done) × ((Assignable ws → ⊥) → (l h : ℕ) × (r .1 ≡ refuse (Crowded (record { l = l; h = h }))) × FirstOverfull ws (l, h)) in
     let ws : List Window = charged-with (w .now) (w .lanes) o in
     let q = decision ws in
-    subst (λ t. PassesEarlierChecks t o → Law (charged-with (t .now) (t .lanes) o) (admit w o)) (sym (told-is number disk pool cs))
-    (λ p. subst (Law ws) (sym (last-decides w (before-crowded w o) (no-room w o) (admitted w o, done) (passes-earlier w o p)))
+    subst (λ t. PassesEarlierChecks (length disk) t o → Law (charged-with (t .now) (t .lanes) o) (admit w o)) (sym (told-is number disk pool cs))
+    (λ p. subst (Law ws) (sym (last-decides w (before-crowded w o) (no-room w o) (admitted w o, done) (passes-earlier w o (length disk) size p)))
     (decides ws w (admitted w o) (tried ws) (q .0) (q .1) (q .2)))
 
 -- the same bench, no earlier than slot t
@@ -105,6 +106,9 @@ after-onward w cs = after-keeps (Onward (w .number) (w .now)) granted-onward w c
     granted-onward x (gives-slip y) p = λ _. p
     granted-onward x (closes h) p = λ _. p
 
+pub pool-sized : (d : List Block) (w : World) (s : Sound d w) → wrong-pool w .0 ≡ false
+pool-sized d w s = not-from-true _ (eq-eqb _ 2048 (s .base .pool))
+
 module _ (d : List Block) (w : World) (s : Sound d w) (m : ℕ) (e : Lease) (out : Out (w .leases) m e) where
   kept : Kept d (w .now) (w .pool) (w .lanes) e
   kept = s .base .leases m e out
@@ -121,17 +125,14 @@ module _ (d : List Block) (w : World) (s : Sound d w) (m : ℕ) (e : Lease) (out
       by true c q = q
       by false c q = not-from-false c q
 
-  below : m < 16
-  below = out-small d w s (λ _. true) m (subst (λ o. some-and (λ _. true) o ≡ true) (sym out) refl)
-
-  sized : wrong-pool w .0 ≡ false
-  sized = not-from-true _ (eq-eqb _ 2048 (s .base .pool))
+  pub out-below : m < 16
+  out-below = out-small d w s (λ _. true) m (subst (λ o. some-and (λ _. true) o ≡ true) (sym out) refl)
 
   shown-by-number : e .slip ≡ false → show w (e .party) m .1 ≡ shown (block-at d (e .block) .bytes)
   unfolding show
   shown-by-number q =
       ap (λ r. r .1) (passes w (beyond (e .party) m ∷ wrong-pool w ∷ not-held w (e .party) m ∷ []) (w, shows w m)
-      (or-from _ _ (le-ltb 3 (e .party) (kept .party)) (le-ltb 15 m (omega (arith, below))), (sized, (not-from-true _ (held-by false q), tt))))
+      (or-from _ _ (le-ltb 3 (e .party) (kept .party)) (le-ltb 15 m (omega (arith, out-below))), (pool-sized d w s, (not-from-true _ (held-by false q), tt))))
       ∙ shows-it
 
   shown-by-slip : e .slip ≡ true → show-slip w (record { lease = m; bench = w .number; party = e .party }) .1 ≡ shown (block-at d (e .block) .bytes)
@@ -139,16 +140,17 @@ module _ (d : List Block) (w : World) (s : Sound d w) (m : ℕ) (e : Lease) (out
   shown-by-slip q =
       let x : Slip = record { lease = m; bench = w .number; party = e .party } in
       ap (λ r. r .1) (passes w (wrong-pool w ∷ no-slip-of w x ∷ []) (w, shows w m)
-      (sized, (not-from-true _ (and-from _ _ (eq-eqb (w .number) (w .number) refl) (held-by true q)), tt)))
+      (pool-sized d w s, (not-from-true _ (and-from _ _ (eq-eqb (w .number) (w .number) refl) (held-by true q)), tt)))
       ∙ shows-it
 
 pub shown-law : (number : ℕ) (disk : List Block) (pool : List ℕ) → Start disk pool → ShownAsOnDisk number disk pool
 shown-law number disk pool start cs m e =
     let w : World = after (new number disk pool) cs in
     let s : Sound disk w = after-sound disk (new number disk pool) cs (new-sound number disk pool start) in
-    subst (λ t. Out (t .leases) m e → (e .slip ≡ false → show w (e .party) m .1 ≡ shown (block-at disk (e .block) .bytes))
+    subst (λ t. Out (t .leases) m e → (e .block < length disk) × (e .slip ≡ false → show w (e .party) m .1 ≡ shown (block-at disk (e .block) .bytes))
     × (e .slip ≡ true → show-slip w (record { lease = m; bench = number; party = e .party }) .1 ≡ shown (block-at disk (e .block) .bytes))
     × (block-at (t .disk) (e .block) .bytes ≡ block-at disk (e .block) .bytes)) (sym (told-is number disk pool cs)) (λ out. (
+      s .base .leases m e out .on-disk,
       shown-by-number disk w s m e out,
       subst (λ n. e .slip ≡ true → show-slip w (record { lease = m; bench = n; party = e .party }) .1 ≡ shown (block-at disk (e .block) .bytes))
           (after-onward (new number disk pool) cs .0) (shown-by-slip disk w s m e out),
@@ -162,9 +164,13 @@ served-serves w f (Some c) q =
     (q .is-due, refl, λ g yes. subst (λ d. (d ≤ next-deadline (lane-at (w .lanes) g)) × (d ≡ next-deadline (lane-at (w .lanes) g) → c .0 ≤ g)) (sym (q .is)) (q .first g yes)) in
     cond-both (eqb (read-number (w .disk) (next-block (lane-at (w .lanes) (c .0))) 64) 0) _ _ (λ (r : World × Answer). Serves (w .now) (lane-at (w .lanes)) (r .1)) (λ _. is) (λ _. (is, refl))
 
-pub rule-law : (number : ℕ) (disk : List Block) (pool : List ℕ) → ReadsEarliestDeadline number disk pool
-rule-law number disk pool cs f =
+pub rule-law : (number : ℕ) (disk : List Block) (pool : List ℕ) → Start disk pool → ReadsEarliestDeadline number disk pool
+unfolding tick
+rule-law number disk pool start cs f =
     let w : World = after (new number disk pool) cs in
+    let s : Sound disk w = after-sound disk (new number disk pool) cs (new-sound number disk pool start) in
     let law : Serves (w .now) (lane-at (w .lanes)) (tick w f .1) =
-    call-cases (λ r. Serves (w .now) (lane-at (w .lanes)) (r .1)) w (λ _. tt) (ticks f) (λ _. served-serves w f (choice (w .now) (w .lanes)) (chosen (w .now) (w .lanes))) in
+    checked-cases (λ r. Serves (w .now) (lane-at (w .lanes)) (r .1)) w (tick-checks w) (served w f (choice (w .now) (w .lanes)))
+    ((λ e. absurd (both-ways _ (pool-sized disk w s) e)), ((λ e. eqb-true (w .now) 1000000 e), tt))
+    (λ _. served-serves w f (choice (w .now) (w .lanes)) (chosen (w .now) (w .lanes))) in
     subst (λ t. Serves (t .now) (lane-of t) (tick w f .1)) (sym (told-is number disk pool cs)) law

@@ -17,7 +17,7 @@ use Rattle.history.specs.declared.Lane.{Lane}
 use Rattle.history.specs.declared.Lease.{Lease}
 use Rattle.history.specs.Bench.{World, Out, is-live, lane-in, lane-at, free}
 use Rattle.history.specs.Calls.{Answer, new, on-live, happens, new-lane, all-aged, passed, choice, served, there, taken, vacant}
-use Rattle.history.specs.Told.{Call, admits, ticks, takes, gives, gives-slip, closes, after}
+use Rattle.history.specs.Told.{Call, admits, ticks, takes, gives, gives-slip, closes}
 use Rattle.history.specs.Laws.{SlotTellsLane}
 use Rattle.history.proofs.Checks.{Granted, after-keeps}
 use Rattle.history.proofs.Histories.{same-at}

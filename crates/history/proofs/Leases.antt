@@ -16,7 +16,7 @@ use Rattle.disk.specs.Meaning.{Block}
 use Rattle.history.specs.declared.Lane.{Lane}
 use Rattle.history.specs.declared.Lease.{Lease}
 use Rattle.history.specs.Bench.{World, some-and, is-live, lane-at}
-use Rattle.history.specs.Calls.{Slip, with-leases, new-lease, taken, given, vacant, there}
+use Rattle.history.specs.Calls.{Slip, with-leases, new-lease, given, vacant, there}
 use Rattle.history.specs.Told.{takes, gives, gives-slip}
 use Rattle.history.proofs.Checks.{Granted}
 use Rattle.history.proofs.Sound.{Guarded, Kept, Base, Sound, set-at}
@@ -63,6 +63,7 @@ module _ (d : List Block) (w : World) (s : Sound d w) where
       record {
         party = low;
         placed = t .settled .placed _ below;
+        on-disk = omega (arith, t .settled .on-disk, t .upto, ltb-true _ _ (q .0));
         bytes = t .bytes i (ltb-true _ _ (q .0)) (ltb-true _ _ (q .1));
         guarded = λ g j alive in′ same.
             let a = b .apart g h j (i % l .order .timing .depth) alive (p .0) in′ below same in

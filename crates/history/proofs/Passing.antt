@@ -1,6 +1,6 @@
 -- A slot passes: lanes end, and what is left of a sound bench is sound.
 use mathlib.Core.Path.{_≡_, refl, sym, subst, ap, _∙_}
-use mathlib.Core.Bool.{false, cond, _&&_}
+use mathlib.Core.Bool.{false, _&&_}
 use mathlib.Core.List.{List, [], _∷_, map}
 use Prim.Native.Nat.{ℕ, zero, suc, _≤_, _<_}
 use native.Mathlib.Omega.{arith}
@@ -79,6 +79,7 @@ module _ (d : List Block) (w : World) (b : Base d w) where
             record {
               party = k .party;
               placed = k .placed;
+              on-disk = k .on-disk;
               bytes = k .bytes;
               guarded = λ h j alive.
                   let q = still-live t (w .leases) ls h alive in

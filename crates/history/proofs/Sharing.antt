@@ -1,6 +1,6 @@
 -- No two blocks that are there share a buffer, a lease is on the block that lies in its buffer, and no lease number that
 -- is out is handed out again.
-use mathlib.Core.Path.{_≡_, refl, sym, subst, ap, _∙_}
+use mathlib.Core.Path.{_≡_, refl, sym, subst, ap}
 use mathlib.Core.Bool.{Bool, true, false}
 use mathlib.Core.List.{List, [], _∷_}
 use mathlib.Core.Logic.{inl, inr}
@@ -16,12 +16,12 @@ use Rattle.disk.specs.Meaning.{Block}
 use Rattle.history.specs.declared.Lane.{Lane}
 use Rattle.history.specs.declared.Lease.{Lease}
 use Rattle.history.specs.Bench.{World, Out, is-live, lane-at, burn-end, buffer-of}
-use Rattle.history.specs.Calls.{Slip, Answer, refused, new, there, vacant, lease-told, take-block}
-use Rattle.history.specs.Told.{Call, takes, after, Told, lane-of}
-use Rattle.history.specs.Laws.{Start, NothingShared}
+use Rattle.history.specs.Calls.{Slip, refused, new, there, vacant, lease-told, take-block}
+use Rattle.history.specs.Told.{takes, after, Told}
+use Rattle.history.specs.Laws.{Start, BlocksApart, LeasesOnTheirBlocks, NothingShared}
 use Rattle.history.proofs.Buffers.{places-differ}
 use Rattle.history.proofs.Checks.{call-cases}
-use Rattle.history.proofs.Histories.{new-sound, after-sound, after-onward}
+use Rattle.history.proofs.Histories.{new-sound, after-sound}
 use Rattle.history.proofs.Sound.{IsLive, Steady, Sound}
 use Rattle.history.proofs.Telling.{told-is}
 use Rattle.history.proofs.Ticking.{near}
@@ -100,9 +100,6 @@ pub shared-law : (number : ℕ) (disk : List Block) (pool : List ℕ) → Start 
 shared-law number disk pool start cs =
     let w : World = after (new number disk pool) cs in
     let s : Sound disk w = after-sound disk (new number disk pool) cs (new-sound number disk pool start) in
-    let Law : Told → Type 0 = λ t.
-    ((h g i j : ℕ) → there (t .now) (lane-of t h) i ≡ true → there (t .now) (lane-of t g) j ≡ true → buffer-of (lane-of t h) i ≡ buffer-of (lane-of t g) j → (h ≡ g) × (i ≡ j))
-    × ((m h i : ℕ) (e : Lease) → Out (t .leases) m e → there (t .now) (lane-of t h) i ≡ true → buffer-of (lane-of t h) i ≡ e .buffer
-    → (e .head ≡ h) × (e .admitted ≡ lane-of t h .admitted) × (e .index ≡ i))
+    let Law : Told → Type 0 = λ t. BlocksApart t × LeasesOnTheirBlocks t
     × ((h i party m : ℕ) (slip : Bool) → take-block w h i party slip .1 ≡ lease-told number m party slip → getD (t .leases) m None ≡ None) in
     subst Law (sym (told-is number disk pool cs)) (blocks-apart disk w s, lease-on-block disk w s, lease-vacant w number)

@@ -8,7 +8,7 @@ use native.Mathlib.Nat.{mod-lt}
 use native.Mathlib.Omega.{arith}
 use lib.ListN.{length, getD, set}
 use Rattle.std.specs.declared.option.Option.{Option}
-use Rattle.std.specs.declared.option.Option.the-variants.{Some, None}
+use Rattle.std.specs.declared.option.Option.the-variants.{None}
 use Rattle.std.proofs.shelf.Lists.{length-set, getD-set-same, getD-set-other}
 use Rattle.std.proofs.shelf.Tests.{cases-eq}
 use Rattle.disk.specs.Meaning.{Block, block-at}
@@ -60,6 +60,7 @@ Guards now e h l = (j : ℕ) → IsLive l → j < l .order .timing .depth → ge
 pub record Kept (d : List Block) (now : ℕ) (pool : List ℕ) (ls : List (Option Lane)) (e : Lease) : Type 0 where
   pub party : e .party ≤ 3
   pub placed : e .buffer < 32
+  pub on-disk : e .block < length d
   pub bytes : bytes-in pool (e .buffer) ≡ block-at d (e .block) .bytes
   pub guarded : (h : ℕ) → Guards now e h (lane-at ls h)
 
@@ -92,50 +93,72 @@ set-at P xs k g a d e same other = elim (cases-eq g k) [
 sep-sym : (h : ℕ) (l : Lane) (g : ℕ) (k : Lane) → Sep h l g k → Sep g k h l
 sep-sym h l g k s i j lk ll ik il same = let r = s j i ll lk il ik (sym same) in (sym (r .0), sym (r .1))
 
--- the lane at head k becomes o, with other memory, which keeps the bytes of the other live lanes' buffers and of the leases
-module _ (d : List Block) (w : World) (b : Base d w) (k : ℕ) (o : Option Lane) (pool′ : List ℕ) (disk′ : List Block) (x y : ℕ) where
-  pub put-lane : k < 8 → (IsLive (lane-in o) → Steady d (w .now) pool′ k (lane-in o))
-      → Sep k (lane-in o) k (lane-in o) → ((g : ℕ) → Sep k (lane-in o) g (lane-at (w .lanes) g))
-      → ((m : ℕ) (e : Lease) → Out (w .leases) m e → Guards (w .now) e k (lane-in o))
-      → length pool′ ≡ 2048 → SameBytes d disk′
-      → ((h : ℕ) → (h ≡ k → ⊥) → IsLive (lane-at (w .lanes) h) → (j : ℕ) → j < lane-at (w .lanes) h .order .timing .depth
-      → bytes-in pool′ (getD (lane-at (w .lanes) h .buffers) j 0) ≡ bytes-in (w .pool) (getD (lane-at (w .lanes) h .buffers) j 0))
-      → ((m : ℕ) (e : Lease) → Out (w .leases) m e → bytes-in pool′ (e .buffer) ≡ bytes-in (w .pool) (e .buffer))
-      → Base d (record { number = w .number; now = w .now; lanes = set (w .lanes) k o; leases = w .leases; disk = disk′; pool = pool′; attempts = x; failures = y })
-  put-lane in′ steady self left guards size same others leased =
-      let ls : List (Option Lane) = w .lanes in
-      let l : Lane = lane-in o in
-      let inside : k < length ls = omega (arith, b .heads) in
+-- what lets head k's lane become l, with pool′ in place of the pool
+pub record Puts (d : List Block) (w : World) (k : ℕ) (l : Lane) (pool′ : List ℕ) : Type 0 where
+  pub place : k < 8
+  pub steady : IsLive l → Steady d (w .now) pool′ k l
+  pub once : Sep k l k l
+  pub apart : (g : ℕ) → Sep k l g (lane-at (w .lanes) g)
+  pub guards : (m : ℕ) (e : Lease) → Out (w .leases) m e → Guards (w .now) e k l
+  pub size : length pool′ ≡ 2048
+  -- the bytes of the other live lanes and of the leases stay
+  pub lanes-kept : (h : ℕ) → (h ≡ k → ⊥) → IsLive (lane-at (w .lanes) h) → (j : ℕ) → j < lane-at (w .lanes) h .order .timing .depth
+      → bytes-in pool′ (getD (lane-at (w .lanes) h .buffers) j 0) ≡ bytes-in (w .pool) (getD (lane-at (w .lanes) h .buffers) j 0)
+  pub leases-kept : (m : ℕ) (e : Lease) → Out (w .leases) m e → bytes-in pool′ (e .buffer) ≡ bytes-in (w .pool) (e .buffer)
+
+module _ (d : List Block) (w : World) (b : Base d w) (k : ℕ) (o : Option Lane) (pool′ : List ℕ) (p : Puts d w k (lane-in o) pool′) where
+  abbrev ls : List (Option Lane)
+  ls = w .lanes
+
+  abbrev l : Lane
+  l = lane-in o
+
+  inside : k < length ls
+  inside = omega (arith, b .heads, p .place)
+
+  put-steady : (h : ℕ) → IsLive (lane-at (set ls k o) h) → Steady d (w .now) pool′ h (lane-at (set ls k o) h)
+  put-steady h =
+      set-at (λ z. IsLive (lane-in z) → Steady d (w .now) pool′ h (lane-in z)) ls k h o None inside
+      (λ q. subst (λ h. IsLive l → Steady d (w .now) pool′ h l) (sym q) (p .steady))
+      (λ ne alive.
+      let t = b .lanes h alive in
       record {
-        heads = length-set ls k o ∙ b .heads;
-        numbers = b .numbers;
-        pool = size;
-        full = b .full;
-        disk = same;
-        lanes = λ h. set-at (λ z. IsLive (lane-in z) → Steady d (w .now) pool′ h (lane-in z)) ls k h o None inside
-            (λ q. subst (λ h. IsLive l → Steady d (w .now) pool′ h l) (sym q) steady)
-            (λ ne alive.
-            let t = b .lanes h alive in
-            record {
-              settled = t .settled;
-              upto = t .upto;
-              spared = t .spared;
-              released = t .released;
-              bytes = λ j e f. others h ne alive (j % lane-at ls h .order .timing .depth) (mod-lt j (omega (arith, t .settled .valid .timing .depth-least))) ∙ t .bytes j e f;
-            });
-        apart = λ h g.
-            set-at (λ z. Sep h (lane-in z) g (lane-at (set ls k o) g)) ls k h o None inside
-            (λ q. subst (λ h. Sep h l g (lane-at (set ls k o) g)) (sym q)
-            (set-at (λ z. Sep k l g (lane-in z)) ls k g o None inside (λ r. subst (λ g. Sep k l g l) (sym r) self) (λ _. left g)))
-            (λ _. set-at (λ z. Sep h (lane-at ls h) g (lane-in z)) ls k g o None inside
-            (λ r. subst (λ g. Sep h (lane-at ls h) g l) (sym r) (sep-sym k l h (lane-at ls h) (left h))) (λ _. b .apart h g));
-        leases = λ m e out.
-            let t = b .leases m e out in
-            record {
-              party = t .party;
-              placed = t .placed;
-              bytes = leased m e out ∙ t .bytes;
-              guarded = λ h. set-at (λ z. Guards (w .now) e h (lane-in z)) ls k h o None inside
-                  (λ q. subst (λ h. Guards (w .now) e h l) (sym q) (guards m e out)) (λ _. t .guarded h);
-            };
+        settled = t .settled;
+        upto = t .upto;
+        spared = t .spared;
+        released = t .released;
+        bytes = λ j e f. p .lanes-kept h ne alive (j % lane-at ls h .order .timing .depth) (mod-lt j (omega (arith, t .settled .valid .timing .depth-least))) ∙ t .bytes j e f;
+      })
+
+  put-apart : (h g : ℕ) → Sep h (lane-at (set ls k o) h) g (lane-at (set ls k o) g)
+  put-apart h g =
+      set-at (λ z. Sep h (lane-in z) g (lane-at (set ls k o) g)) ls k h o None inside
+      (λ q. subst (λ h. Sep h l g (lane-at (set ls k o) g)) (sym q)
+      (set-at (λ z. Sep k l g (lane-in z)) ls k g o None inside (λ r. subst (λ g. Sep k l g l) (sym r) (p .once)) (λ _. p .apart g)))
+      (λ _. set-at (λ z. Sep h (lane-at ls h) g (lane-in z)) ls k g o None inside
+      (λ r. subst (λ g. Sep h (lane-at ls h) g l) (sym r) (sep-sym k l h (lane-at ls h) (p .apart h))) (λ _. b .apart h g))
+
+  put-kept : (m : ℕ) (e : Lease) → Out (w .leases) m e → Kept d (w .now) pool′ (set ls k o) e
+  put-kept m e out =
+      let t = b .leases m e out in
+      record {
+        party = t .party;
+        placed = t .placed;
+        on-disk = t .on-disk;
+        bytes = p .leases-kept m e out ∙ t .bytes;
+        guarded = λ h. set-at (λ z. Guards (w .now) e h (lane-in z)) ls k h o None inside
+            (λ q. subst (λ h. Guards (w .now) e h l) (sym q) (p .guards m e out)) (λ _. t .guarded h);
       }
+
+  pub put-lane : (disk′ : List Block) (x y : ℕ) → SameBytes d disk′
+      → Base d (record { number = w .number; now = w .now; lanes = set ls k o; leases = w .leases; disk = disk′; pool = pool′; attempts = x; failures = y })
+  put-lane disk′ x y same = record {
+    heads = length-set ls k o ∙ b .heads;
+    numbers = b .numbers;
+    pool = p .size;
+    full = b .full;
+    disk = same;
+    lanes = put-steady;
+    apart = put-apart;
+    leases = put-kept;
+  }

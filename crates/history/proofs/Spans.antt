@@ -1,21 +1,19 @@
 -- The first overfull span, found in whatever way, is the one that trying finds; so what the search of `schedule` answers
 -- is what admission's last check tells.
-use mathlib.Core.Path.{_≡_, refl, sym, ap, subst, _∙_}
-use mathlib.Core.Bool.{Bool, true, false}
+use mathlib.Core.Path.{_≡_, refl, sym, ap, subst}
 use mathlib.Core.List.{List}
 use mathlib.Core.Logic.{inl, inr}
-use Prim.Native.Nat.{ℕ, _<_}
+use Prim.Native.Nat.{ℕ}
 use native.Mathlib.Omega.{arith}
 use Rattle.std.specs.Options.{Cases}
 use Rattle.std.specs.declared.option.Option.{Option}
 use Rattle.std.specs.declared.option.Option.the-variants.{Some, None}
 use Rattle.std.specs.declared.result.Result.the-variants.{Ok}
-use Rattle.std.proofs.shelf.Tests.{cases-lt, cases-eq}
+use Rattle.std.proofs.shelf.Tests.{cases-lt}
 use Rattle.refusal.specs.declared.Span.{Span}
-use Rattle.windows.specs.Windows.{Window, Overfull, OverfullAt, NoneOverfull, FirstOverfull, tried}
+use Rattle.windows.specs.Windows.{Window, Overfull, NoneOverfull, FirstOverfull, tried}
 use Rattle.windows.proofs.Find.{decision}
 use Rattle.schedule.specs.Answers.{FirstOverfullOrNone}
-use Rattle.history.specs.Calls.{span-told}
 
 -- there is one first overfull span
 pub first-is-one : (ws : List Window) (r s : ℕ × ℕ) → FirstOverfull ws r → FirstOverfull ws s → r ≡ s

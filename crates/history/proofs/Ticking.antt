@@ -11,16 +11,14 @@ use lib.ListN.{length, getD, set}
 use Rattle.std.specs.Options.{Cases}
 use Rattle.std.specs.declared.option.Option.{Option}
 use Rattle.std.specs.declared.option.Option.the-variants.{Some, None}
-use Rattle.std.proofs.shelf.Lists.{length-map, map-set, getD-past}
-use Rattle.std.proofs.shelf.Elements.{all-from-getD, all-map}
-use Rattle.std.proofs.shelf.Tests.{cond-both, both-ways, cases-lt, cases-eq, cases-bool, and-parts, ltb-true, leb-true, cond-true, cond-false, le-ltb}
+use Rattle.std.proofs.shelf.Lists.{getD-past}
+use Rattle.std.proofs.shelf.Tests.{cond-both, both-ways, cases-lt, cases-eq, and-parts, ltb-true, leb-true, cond-true, cond-false, le-ltb}
 use Rattle.refusal.specs.declared.Fault.{Fault}
 use Rattle.disk.specs.Meaning.{Block, block-at, read-number, read-after}
 use Rattle.disk.proofs.Meaning.{wears}
-use Rattle.windows.specs.Windows.{NoneOverfull, count, since, Rule}
-use Rattle.windows.specs.Lanes as windows
-use Rattle.windows.specs.Lanes.{upTo, attempts, spend, NoneSooner}
-use Rattle.schedule.specs.Orders.{deadline, release, owed}
+use Rattle.windows.specs.Windows.{NoneOverfull, count}
+use Rattle.windows.specs.Lanes.{attempts}
+use Rattle.schedule.specs.Orders.{deadline, release}
 use Rattle.schedule.specs.declared.Timing.{Timing}
 use Rattle.history.specs.declared.Event.{Event}
 use Rattle.history.specs.declared.Event.the-variants.{FailedAttempt, BlockRead}
@@ -28,15 +26,16 @@ use Rattle.history.specs.declared.Lane.{Lane}
 use Rattle.history.specs.declared.Lease.{Lease}
 use Rattle.history.specs.declared.Stage.{Stage}
 use Rattle.history.specs.declared.Stage.the-variants.{Faulted}
-use Rattle.history.specs.Bench.{World, is-live, lane-in, lane-at, no-lane, Out, burn-end, buffer-of, bytes-in, written, work}
-use Rattle.history.specs.Calls.{Answer, on-live, happens, due, next-block, choice, moved, read-done, read-failed, passed, served, tick}
+use Rattle.history.specs.Bench.{World, is-live, lane-in, lane-at, Out, burn-end, buffer-of, bytes-in, written}
+use Rattle.history.specs.Calls.{Answer, on-live, happens, due, next-block, choice, moved, passed, served}
 use Rattle.history.specs.Told.{ticks}
 use Rattle.history.proofs.Buffers.{length-written, written-same, written-other, places-differ}
-use Rattle.history.proofs.Charges.{charge, charges, charged-in, windows-of, whole, fits-less, fits-rule, count-set, less-tries, serves, waits, on-time}
+use Rattle.history.proofs.Charges.{charged-in}
 use Rattle.history.proofs.Checks.{Granted}
-use Rattle.history.proofs.Choosing.{Idle, Chosen, chosen, due-first, deadline-up}
-use Rattle.history.proofs.Passing.{getD-map-any, passed-sound}
-use Rattle.history.proofs.Sound.{IsLive, Steady, SameBytes, Base, Sound, put-lane}
+use Rattle.history.proofs.Choosing.{Idle, Chosen, chosen, deadline-up}
+use Rattle.history.proofs.Passing.{passed-sound}
+use Rattle.history.proofs.Serving.{Early, idle-fits, served-fits}
+use Rattle.history.proofs.Sound.{IsLive, Puts, Steady, SameBytes, Base, Sound, put-lane}
 
 -- a read alters no bytes
 same-after : (d m : List Block) (x : ℕ) → SameBytes d m → SameBytes d (read-after m x 64)
@@ -83,28 +82,25 @@ failed-as w k l l′ = record {
 }
 
 -- a lane moves on in its order, with its buffers
-moves : (d : List Block) (w : World) (b : Base d w) (k : ℕ) (i f : ℕ) (s : Stage) (pool′ : List ℕ) (disk′ : List Block) (x y : ℕ) → k < 8
+moves : (d : List Block) (w : World) (b : Base d w) (k : ℕ) (i f : ℕ) (s : Stage) (pool′ : List ℕ) → k < 8
     → (is-live s ≡ true → IsLive (lane-at (w .lanes) k)) → lane-at (w .lanes) k .next ≤ i
-    → (is-live s ≡ true → Steady d (w .now) pool′ k (moved (lane-at (w .lanes) k) i f s)) → length pool′ ≡ 2048 → SameBytes d disk′
+    → (is-live s ≡ true → Steady d (w .now) pool′ k (moved (lane-at (w .lanes) k) i f s)) → length pool′ ≡ 2048
     → ((h : ℕ) → (h ≡ k → ⊥) → IsLive (lane-at (w .lanes) h) → (j : ℕ) → j < lane-at (w .lanes) h .order .timing .depth
     → bytes-in pool′ (getD (lane-at (w .lanes) h .buffers) j 0) ≡ bytes-in (w .pool) (getD (lane-at (w .lanes) h .buffers) j 0))
     → ((m : ℕ) (e : Lease) → Out (w .leases) m e → bytes-in pool′ (e .buffer) ≡ bytes-in (w .pool) (e .buffer))
-    → Base d (record {
-      number = w .number;
-      now = w .now;
-      lanes = set (w .lanes) k (Some (moved (lane-at (w .lanes) k) i f s));
-      leases = w .leases;
-      disk = disk′;
-      pool = pool′;
-      attempts = x;
-      failures = y;
-    })
-moves d w b k i f s pool′ disk′ x y in′ was up steady =
-    put-lane d w b k (Some (moved (lane-at (w .lanes) k) i f s)) pool′ disk′ x y in′ steady
-    (λ m n al bl. b .apart k k m n (was al) (was bl)) (λ g m n al bl. b .apart k g m n (was al) bl)
-    (λ m e out j alive jj g.
-    let r = b .leases m e out .guarded k j (was alive) jj g in
-    record { head = r .head; admitted = r .admitted; place = r .place; read = omega (arith, r .read); burning = r .burning })
+    → Puts d w k (moved (lane-at (w .lanes) k) i f s) pool′
+moves d w b k i f s pool′ in′ was up steady size others leased = record {
+  place = in′;
+  steady = steady;
+  once = λ m n al bl. b .apart k k m n (was al) (was bl);
+  apart = λ g m n al bl. b .apart k g m n (was al) bl;
+  guards = λ m e out j alive jj g.
+      let r = b .leases m e out .guarded k j (was alive) jj g in
+      record { head = r .head; admitted = r .admitted; place = r .place; read = omega (arith, r .read); burning = r .burning };
+  size = size;
+  lanes-kept = others;
+  leases-kept = leased;
+}
 
 module _ (d : List Block) (w : World) (b : Base d w) (k : ℕ) (is : due (w .now) (lane-at (w .lanes) k) ≡ true) where
   abbrev l : Lane
@@ -130,118 +126,81 @@ module _ (d : List Block) (w : World) (b : Base d w) (k : ℕ) (is : due (w .now
 
   failed-base : (f : Fault) → Base d (failed-as w k l (on-live l (FailedAttempt f)))
   failed-base f =
-      let s : Steady d (w .now) (w .pool) k l = steady in
-      moves d w b k (l .next) (suc (l .failed)) (cond (ltb (l .failed) (l .order .timing .spare)) (l .stage) (Faulted f)) (w .pool) _ _ _ small (λ _. alive) (omega arith)
+      let s : Stage = cond (ltb (l .failed) (l .order .timing .spare)) (l .stage) (Faulted f) in
+      put-lane d w b k (Some (on-live l (FailedAttempt f))) (w .pool)
+      (moves d w b k (l .next) (suc (l .failed)) s (w .pool) small (λ _. alive) (omega arith)
       (λ still. record {
-        settled = s .settled;
-        upto = s .upto;
-        released = s .released;
-        bytes = s .bytes;
+        settled = steady .settled;
+        upto = steady .upto;
+        released = steady .released;
+        bytes = steady .bytes;
         spared = cond-both (ltb (l .failed) (l .order .timing .spare)) (l .stage) (Faulted f) (λ x. is-live x ≡ true → suc (l .failed) ≤ l .order .timing .spare)
             (λ e _. ltb-true _ _ e) (λ _ z. absurd (both-ways false refl z)) still;
       })
-      (b .pool) (same-after d (w .disk) _ (b .disk)) (λ _ _ _ _ _. refl) (λ _ _ _. refl)
+      (b .pool) (λ _ _ _ _ _. refl) (λ _ _ _. refl))
+      _ _ _ (same-after d (w .disk) _ (b .disk))
 
   -- an earlier block that still burns lies elsewhere
   elsewhere : (i : ℕ) → i < l .next → w .now < burn-end (l .order .timing) i → i % l .order .timing .depth ≡ l .next % l .order .timing .depth → ⊥
   elsewhere i lt burns = places-differ i (l .next) (l .order .timing .depth) lt (near (l .order .timing) (l .admitted) (w .now) i (l .next) released burns lt)
 
+  -- THE READ THAT SUCCEEDS
+
+  abbrev n : ℕ
+  n = l .order .timing .depth
+
+  abbrev x : ℕ
+  x = buffer-of l (l .next)
+
+  abbrev ks : List ℕ
+  ks = block-at (w .disk) (next-block l) .bytes
+
+  place-small : (i : ℕ) → i % n < n
+  place-small i = mod-lt i (omega (arith, steady .settled .valid .timing .depth-least))
+
+  inside : 64 * x + 64 ≤ length (w .pool)
+  inside = let low : x < 32 = steady .settled .placed (l .next % n) (place-small (l .next)) in omega (arith, b .pool)
+
+  as-on-disk : ks ≡ block-at d (next-block l) .bytes
+  as-on-disk = b .disk .bytes (next-block l)
+
+  full : length ks ≡ 64
+  full = ap length as-on-disk ∙ b .full (next-block l) (omega (arith, unread, steady .settled .on-disk))
+
+  -- the other buffers are as they were
+  others-kept : (y : ℕ) → y < 32 → (y ≡ x → ⊥) → bytes-in (written (w .pool) x ks) y ≡ bytes-in (w .pool) y
+  others-kept y low ne = written-other (w .pool) ks x inside full y (omega (arith, b .pool)) ne
+
+  read-bytes : (i : ℕ) → i < suc (l .next) → w .now < burn-end (l .order .timing) i → bytes-in (written (w .pool) x ks) (buffer-of l i) ≡ block-at d (l .order .first + i) .bytes
+  read-bytes i e burns = elim (cases-eq i (l .next)) [
+    | inl q ↦ subst (λ i. bytes-in (written (w .pool) x ks) (buffer-of l i) ≡ block-at d (l .order .first + i) .bytes) (sym q) (written-same (w .pool) ks x inside full ∙ as-on-disk)
+    | inr q ↦
+        let lt : i < l .next = omega arith in
+        others-kept (buffer-of l i) (steady .settled .placed (i % n) (place-small i))
+        (λ e. elsewhere i lt burns (b .apart k k (i % n) (l .next % n) alive alive (place-small i) (place-small (l .next)) e .1))
+        ∙ steady .bytes i lt burns
+  ]
+
+  read-steady : Steady d (w .now) (written (w .pool) x ks) k (on-live l BlockRead)
+  read-steady = record {
+    settled = steady .settled;
+    upto = unread;
+    spared = omega arith;
+    released = λ i e. elim (cases-eq i (l .next)) [
+      | inl q ↦ subst (λ i. release (l .order .timing) (l .admitted) i ≤ w .now) (sym q) released
+      | inr q ↦ steady .released i (omega arith)
+    ];
+    bytes = read-bytes;
+  }
+
   done-base : Base d (read-as w k l (on-live l BlockRead))
   done-base =
-      let s : Steady d (w .now) (w .pool) k l = steady in
-      let x : ℕ = buffer-of l (l .next) in
-      let n : ℕ = l .order .timing .depth in
-      let ks : List ℕ = block-at (w .disk) (next-block l) .bytes in
-      let some : 0 < n = omega (arith, s .settled .valid .timing .depth-least) in
-      let here : l .next % n < n = mod-lt (l .next) some in
-      let low : x < 32 = s .settled .placed (l .next % n) here in
-      let fits : 64 * x + 64 ≤ length (w .pool) = omega (arith, b .pool) in
-      let is-k : ks ≡ block-at d (next-block l) .bytes = b .disk .bytes (next-block l) in
-      let full : length ks ≡ 64 = ap length is-k ∙ b .full (next-block l) (omega (arith, unread, s .settled .on-disk)) in
-      let other : (y : ℕ) → y < 32 → (y ≡ x → ⊥) → bytes-in (written (w .pool) x ks) y ≡ bytes-in (w .pool) y =
-      λ y small ne. written-other (w .pool) ks x fits full y (omega (arith, b .pool)) ne in
-      moves d w b k (suc (l .next)) 0 (l .stage) (written (w .pool) x ks) _ _ _ small (λ e. e) (omega arith)
-      (λ _. record {
-        settled = s .settled;
-        upto = unread;
-        spared = omega arith;
-        released = λ i e. elim (cases-eq i (l .next)) [
-          | inl q ↦ subst (λ i. release (l .order .timing) (l .admitted) i ≤ w .now) (sym q) released
-          | inr q ↦ s .released i (omega arith)
-        ];
-        bytes = λ i e burns. elim (cases-eq i (l .next)) [
-          | inl q ↦ subst (λ i. bytes-in (written (w .pool) x ks) (buffer-of l i) ≡ block-at d (l .order .first + i) .bytes) (sym q)
-              (written-same (w .pool) ks x fits full ∙ is-k)
-          | inr q ↦
-              let lt : i < l .next = omega arith in
-              other (buffer-of l i) (s .settled .placed (i % n) (mod-lt i some))
-              (λ e. elsewhere i lt burns (b .apart k k (i % n) (l .next % n) alive alive (mod-lt i some) here e .1))
-              ∙ s .bytes i lt burns
-        ];
-      })
-      (length-written (w .pool) ks x fits full ∙ b .pool) (same-after d (w .disk) _ (b .disk))
-      (λ h ne also j jj. other _ (b .lanes h also .settled .placed j jj) (λ e. ne (b .apart h k j (l .next % n) also alive jj here e .0)))
-      (λ m e out. other (e .buffer) (b .leases m e out .placed)
-      (λ q. let g = b .leases m e out .guarded k (l .next % n) alive here (sym q) in elsewhere (e .index) (g .read) (g .burning) (g .place)))
-
-charge-live : (j : ℕ) (l : Lane) → j < charge l .blocks → IsLive l
-charge-live j l e = elim (cases-bool (is-live (l .stage))) [
-  | inl t ↦ t
-  | inr f ↦ absurd (let z : charge l .blocks ≡ 0 = cond-false _ _ 0 f in omega arith)
-]
-
-pub charge-at : (ls : List (Option Lane)) (k : ℕ) → getD (charges ls) k (charge no-lane) ≡ charge (lane-at ls k)
-charge-at ls k = getD-map-any (λ o. charge (lane-in o)) ls k None
-
--- every lane that is live was admitted before its start
-abbrev pub Early : List (Option Lane) → Type 0
-Early ls = (h : ℕ) → IsLive (lane-at ls h) → lane-at ls h .admitted ≤ lane-at ls h .order .timing .start
-
-idle-fits : (t : ℕ) (ls : List (Option Lane)) → Early ls → Idle t ls → NoneOverfull (charged-in t ls) → NoneOverfull (charged-in (suc t) ls)
-idle-fits t ls early idle =
-    fits-rule t _ _ (waits t (charges ls) (all-map (λ a. (j : ℕ) → j < a .blocks → 0 < a .owed j → t < a .release j) (λ o. charge (lane-in o)) ls
-    (all-from-getD _ ls None (λ h in′ j lt some. elim (cases-lt t (release (lane-at ls h .order .timing) (lane-at ls h .admitted) j)) [
-      | inl late ↦ late
-      | inr rel ↦ absurd (both-ways _ (idle h) (due-first t j (lane-at ls h) (early h (charge-live j (lane-at ls h) lt)) lt some rel .0))
-    ]))))
-
-module _ (t : ℕ) (ls : List (Option Lane)) (k D : ℕ) (chosen : Chosen t ls (k, D)) (early : Early ls) (spared : lane-at ls k .failed ≤ lane-at ls k .order .timing .spare) where
-  open-lane : (lane-at ls k .next < charge (lane-at ls k) .blocks) × (0 < owed (work (lane-at ls k)) (lane-at ls k .next)) × (release (lane-at ls k .order .timing) (lane-at ls k .admitted) (lane-at ls k .next) ≤ t)
-  open-lane = let is = chosen .is-due in (grind arith, grind arith, grind arith)
-
-  served-fits : (i f : ℕ) (s : Stage)
-      → ((j : ℕ) → owed (work (moved (lane-at ls k) i f s)) j ≤ spend (charge (lane-at ls k)) (lane-at ls k .next) .owed j)
-      → NoneOverfull (charged-in t ls) → NoneOverfull (charged-in (suc t) (set ls k (Some (moved (lane-at ls k) i f s))))
-  served-fits i f s few fits =
-      let l : Lane = lane-at ls k in
-      let l′ : Lane = moved l i f s in
-      let as′ : List windows.Lane = charges ls in
-      let inside : k < length as′ = rw length-map (chosen .place) in
-      let spent : windows.Lane = spend (charge l) (l .next) in
-      let is = charge-at ls k in
-      let (lt, some, rel) = open-lane in
-      let fresh : t < deadline (l .order .timing) (l .next) =
-      subst (λ a. l .next < a .blocks → 0 < a .owed (l .next) → t < a .deadline (l .next)) is (λ lt some. on-time t (l .next) k as′ (charge no-lane) inside lt some fits) lt some in
-      let none : NoneSooner t (deadline (l .order .timing) (l .next)) as′ =
-      all-map (λ a. (j : ℕ) → j < a .blocks → 0 < a .owed j → a .release j ≤ t → deadline (l .order .timing) (l .next) ≤ a .deadline j) (λ o. charge (lane-in o)) ls
-      (all-from-getD _ ls None (λ h in′ j lt some rel.
-      let q = due-first t j (lane-at ls h) (early h (charge-live j (lane-at ls h) lt)) lt some rel in
-      omega (arith, chosen .is, chosen .first h (q .0) .0, q .1))) in
-      let r = subst (λ a. l .next < a .blocks → 0 < a .owed (l .next) → a .release (l .next) ≤ t → t < a .deadline (l .next) → NoneSooner t (a .deadline (l .next)) as′
-      → Rule t (attempts as′) (attempts (set as′ k (spend a (l .next))))) is (serves t (l .next) k as′ (charge no-lane) inside) lt some rel fresh none in
-      fits-less _ _
-      (λ a h. rw (map-set (λ o. charge (lane-in o)) ls k (Some l′))
-      (omega (arith, count-set (suc t) a h as′ k (charge l′) (charge no-lane) inside, count-set (suc t) a h as′ k spent (charge no-lane) inside, less a h)))
-      (fits-rule t _ _ r fits)
-    where
-      less : (a h : ℕ) → count a h (windows-of (suc t) (moved (lane-at ls k) i f s)) ≤ count a h (since (suc t) (whole (spend (charge (lane-at ls k)) (lane-at ls k .next))))
-      less a h =
-          cond-both (is-live s) (lane-at ls k .order .timing .count) 0
-          (λ n. count a h (since (suc t) (upTo (charge (moved (lane-at ls k) i f s)) n)) ≤ count a h (since (suc t) (whole (spend (charge (lane-at ls k)) (lane-at ls k .next)))))
-          (λ _. subst (λ n. count a h (since (suc t) (upTo (charge (moved (lane-at ls k) i f s)) (lane-at ls k .order .timing .count))) ≤ count a h (since (suc t) (upTo (spend (charge (lane-at ls k)) (lane-at ls k .next)) n)))
-          (sym (cond-true _ _ 0 (charge-live _ (lane-at ls k) (open-lane .0))))
-          (less-tries (suc t) a h (spend (charge (lane-at ls k)) (lane-at ls k .next)) (charge (moved (lane-at ls k) i f s)) (lane-at ls k .order .timing .count) (λ j _. few j) (λ _. refl)))
-          (λ _. omega arith)
+      put-lane d w b k (Some (on-live l BlockRead)) (written (w .pool) x ks)
+      (moves d w b k (suc (l .next)) 0 (l .stage) (written (w .pool) x ks) small (λ e. e) (omega arith) (λ _. read-steady) (length-written (w .pool) ks x inside full ∙ b .pool)
+      (λ h ne also j jj. others-kept _ (b .lanes h also .settled .placed j jj) (λ e. ne (b .apart h k j (l .next % n) also alive jj (place-small (l .next)) e .0)))
+      (λ m e out. others-kept (e .buffer) (b .leases m e out .placed)
+      (λ q. let g = b .leases m e out .guarded k (l .next % n) alive (place-small (l .next)) (sym q) in elsewhere (e .index) (g .read) (g .burning) (g .place))))
+      _ _ _ (same-after d (w .disk) _ (b .disk))
 
 pub tick-sound : (d : List Block) (w : World) (f : Fault) → Sound d w → Granted (Sound d) w (ticks f)
 tick-sound d w f s = λ _. serve (choice (w .now) (w .lanes)) (chosen (w .now) (w .lanes))

@@ -13,7 +13,6 @@ use Rattle.disk.specs.Meaning.{Block, ToCome, failures, dead, none-coming, less
 use Rattle.disk.proofs.Meaning.{wears}
 use Rattle.schedule.specs.Orders.{owed}
 use Rattle.history.specs.declared.Asked.{Asked}
-use Rattle.history.specs.declared.Event.{Event}
 use Rattle.history.specs.declared.Event.the-variants.{FailedAttempt, BlockRead}
 use Rattle.history.specs.declared.Lane.{Lane}
 use Rattle.history.specs.declared.Stage.the-variants.{Faulted}

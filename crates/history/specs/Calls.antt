@@ -29,7 +29,7 @@ use Rattle.history.specs.declared.Stage.{Stage}
 use Rattle.history.specs.declared.Stage.the-variants.{Live, Finished, Faulted, Held, Closed}
 use Rattle.history.specs.declared.Ticked.{Ticked}
 use Rattle.history.specs.declared.Ticked.the-variants.{Idle, Read, Failed}
-use Rattle.history.specs.Bench.{World, some-and, any, is-live, lane-in, lane-at, burn-end, buffer-of, bytes-in, written, free, work, works}
+use Rattle.history.specs.Bench.{World, some-and, any, is-live, lane-in, lane-at, burn-end, buffer-of, bytes-in, written, free, works}
 
 -- what a take by slip hands out: the lease, and the bench and the party that may show and give it
 pub record Slip : Type 0 where

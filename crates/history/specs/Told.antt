@@ -2,7 +2,7 @@
 use mathlib.Core.List.{List, [], _∷_}
 use mathlib.Core.Bool.{Bool, true, false, cond}
 use Prim.Native.Nat.{ℕ, suc, _+_}
-use lib.ListN.{getD, set, replicate}
+use lib.ListN.{set, replicate}
 use Rattle.std.specs.declared.option.Option.{Option}
 use Rattle.std.specs.declared.option.Option.the-variants.{Some, None}
 use Rattle.refusal.specs.declared.Fault.{Fault}
@@ -135,6 +135,21 @@ tell-all t (c ∷ cs) (a ∷ as′) = tell-all (tell t c a) cs as′
 -- what a list of calls on a new bench tells
 abbrev pub told : World → List Call → Told
 told w cs = tell-all (nothing (w .disk)) cs (answers w cs)
+
+-- the fault that a tick's answer tells, if its read failed
+abbrev pub fault-in : Ticked → Option Fault
+fault-in Idle = None
+fault-in (Read h i) = None
+fault-in (Failed h i a f) = Some f
+
+abbrev pub fault-told : Answer → Option Fault
+fault-told (ticked x) = fault-in x
+fault-told (refused ns) = None
+fault-told done = None
+fault-told (leased m) = None
+fault-told (slipped s) = None
+fault-told (shown b) = None
+fault-told (reported r) = None
 
 -- the answers of which p holds
 abbrev pub tally : (Answer → Bool) → List Answer → ℕ
