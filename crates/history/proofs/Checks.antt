@@ -8,15 +8,15 @@ use Rattle.std.specs.Options.{isSome}
 use Rattle.std.specs.declared.option.Option.{Option}
 use Rattle.std.specs.declared.option.Option.the-variants.{Some, None}
 use Rattle.std.specs.shelf.Lists.{All}
-use Rattle.std.proofs.shelf.Tests.{cond-both, cond-false, both-ways}
+use Rattle.std.proofs.shelf.Tests.{cond-both, cond-true, cond-false, both-ways}
 use Rattle.refusal.specs.declared.Fault.{Fault}
 use Rattle.windows.specs.Windows.{tried}
 use Rattle.history.specs.declared.Event.the-variants.{Close}
 use Rattle.history.specs.declared.Ticked.{Ticked}
 use Rattle.history.specs.Bench.{World, lane-at}
-use Rattle.history.specs.Calls.{Answer, refused, done, ticked, reported, checked, happens, charged-with, span-told, admitted, admit, admit-checks, choice, passed, served, tick, tick-checks, vacant, taken, take-block, take-checks, lease-told, given, give, give-slip, beyond, not-held, no-slip-of, report-of, closed, close, close-checks}
+use Rattle.history.specs.Calls.{Answer, refused, done, ticked, reported, checked, happens, charged-with, span-told, admitted, admit, admit-checks, choice, passed, served, tick, tick-checks, vacant, taken, take-block, take-checks, lease-told, given, give, give-slip, beyond, not-held, no-slip-of, report-of, closed, close, close-checks, wrong-pool, shows, show, show-slip, report}
 use Rattle.history.specs.Told.{Call, admits, ticks, takes, gives, gives-slip, closes, call, after}
-use Rattle.history.specs.Laws.{RefusedAltersNothing}
+use Rattle.history.specs.Laws.{RefusedAltersNothing, LooksAlterNothing}
 
 abbrev pub Passes : List (Bool × Answer) → Type 0
 Passes cs = All (λ c. c .0 ≡ false) cs
@@ -30,6 +30,11 @@ checked-cases P w (c ∷ cs) r p q = cond-both (c .0) (w, c .1) (checked w cs r)
 pub passes : (w : World) (cs : List (Bool × Answer)) (r : World × Answer) → Passes cs → checked w cs r ≡ r
 passes w [] r q = refl
 passes w (c ∷ cs) r q = cond-false (c .0) _ _ (q .0) ∙ passes w cs r (q .1)
+
+-- the first check that fails refuses
+pub refuses : (w : World) (cs : List (Bool × Answer)) (c : Bool × Answer) (ds : List (Bool × Answer)) (r : World × Answer) → Passes cs → c .0 ≡ true → checked w (cs ++ c ∷ ds) r ≡ (w, c .1)
+refuses w [] c ds r q e = cond-true (c .0) (w, c .1) (checked w ds r) e
+refuses w (x ∷ cs) c ds r q e = cond-false (x .0) (w, x .1) (checked w (cs ++ c ∷ ds) r) (q .0) ∙ refuses w cs c ds r (q .1) e
 
 -- where the checks before it pass, the last one decides
 pub last-decides : (w : World) (cs : List (Bool × Answer)) (c : Bool × Answer) (r : World × Answer) → Passes cs → checked w (cs ++ c ∷ []) r ≡ cond (c .0) (w, c .1) r
@@ -77,7 +82,19 @@ pub after-keeps : (P : World → Type 0) → ((w : World) (c : Call) → P w →
 after-keeps P g w [] p = p
 after-keeps P g w (c ∷ cs) p = after-keeps P g (call w c .0) cs (call-keeps P w c p (g w c p))
 
--- REFUSALS ALTER NOTHING
+-- REFUSALS, SHOWS AND REPORTS ALTER NOTHING
+
+checked-unaltered : (w : World) (cs : List (Bool × Answer)) (a : Answer) → checked w cs (w, a) .0 ≡ w
+checked-unaltered w [] a = refl
+checked-unaltered w (c ∷ cs) a = cond-both (c .0) (w, c .1) (checked w cs (w, a)) (λ r. r .0 ≡ w) (λ _. refl) (λ _. checked-unaltered w cs a)
+
+pub looks-law : LooksAlterNothing
+unfolding show show-slip report
+looks-law w = (
+  (λ party m. checked-unaltered w (beyond party m ∷ wrong-pool w ∷ not-held w party m ∷ []) (shows w m)),
+  (λ s. checked-unaltered w (wrong-pool w ∷ no-slip-of w s ∷ []) (shows w (s .lease))),
+  (λ h. checked-unaltered w (close-checks w h) (reported (report-of (lane-at (w .lanes) h)))),
+)
 
 module _ (w : World) (ns : List ℕ) where
   abbrev Unaltered : World × Answer → Type 0

@@ -1,6 +1,6 @@
 -- Tick's choice is the block that the rule of the earliest deadline serves.
 use mathlib.Core.Path.{_≡_, refl, ap}
-use mathlib.Core.Bool.{Bool, true, false, cond, _&&_}
+use mathlib.Core.Bool.{Bool, true, false, cond}
 use mathlib.Core.List.{List, [], _∷_}
 use mathlib.Core.Logic.{_⊎_, inl, inr}
 use Prim.Native.Nat.{ℕ, zero, suc, _+_, _-_, _*_, _≤_, _<_}
@@ -16,8 +16,9 @@ use Rattle.schedule.specs.Choice.{Choice}
 use Rattle.schedule.specs.Orders.{deadline, release, owed}
 use Rattle.schedule.specs.declared.Timing.{Timing}
 use Rattle.history.specs.declared.Lane.{Lane}
-use Rattle.history.specs.Bench.{is-live, lane-in, lane-at, work}
+use Rattle.history.specs.Bench.{lane-in, lane-at, work}
 use Rattle.history.specs.Calls.{due, next-deadline, sooner, later, choice}
+use Rattle.history.specs.Laws.{ready, ChoiceIsTheRule}
 use Rattle.history.proofs.Charges.{charge}
 
 pub deadline-up : (o : Timing) (i j : ℕ) → i ≤ j → deadline o i ≤ deadline o j
@@ -119,13 +120,8 @@ module _ (t : ℕ) (ls : List (Option Lane)) where
       same None q = refl
       same (Some (j, d)) q = absurd (both-ways _ (none j) (q .is-due))
 
-  -- when head j's lowest unread block is released; not by t where there is none
-  abbrev pub ready : ℕ → ℕ
-  ready j = cond (is-live (lane-at ls j .stage) && ltb (lane-at ls j .next) (lane-at ls j .order .timing .count)) (release (lane-at ls j .order .timing) (lane-at ls j .admitted) (lane-at ls j .next)) (suc t)
-
-  -- what is chosen is the choice of the deadline-driven rule
-  pub chosen-is-the-rule's : (c : ℕ × ℕ) → Chosen t ls c → Choice t (length ls) ready dl (c .0)
-  chosen-is-the-rule's (k, d) q = record {
+  chosen-rule : (c : ℕ × ℕ) → Chosen t ls c → Choice t (length ls) (ready t ls) dl (c .0)
+  chosen-rule (k, d) q = record {
     head = q .place;
     released = let is = q .is-due in grind arith;
     earliest = λ j in′ rel.
@@ -133,3 +129,13 @@ module _ (t : ℕ) (ls : List (Option Lane)) where
         let f = q .first j its in
         elim (cases-lt (dl k) (dl j)) [ inl lt ↦ inl lt | inr ge ↦ (let e : d ≡ dl j = omega (arith, q .is, f .0) in inr (omega (arith, q .is), f .1 e)) ];
   }
+
+  not-ready : (j : ℕ) → due t (lane-at ls j) ≡ false → t < ready t ls j
+  not-ready j none = grind arith
+
+pub choice-law : ChoiceIsTheRule
+choice-law t ls = by (choice t ls) (chosen t ls)
+  where
+    by : (c : Option (ℕ × ℕ)) → Cases c (Idle t ls) (Chosen t ls) → Cases c ((j : ℕ) → t < ready t ls j) (λ c. Choice t (length ls) (ready t ls) (dl t ls) (c .0))
+    by None q = λ j. not-ready t ls j (q j)
+    by (Some c) q = chosen-rule t ls c q

@@ -72,18 +72,19 @@ decides : (ws : List Window) (w : World) (r : World) (o : Option (ℕ × ℕ)) �
 decides ws w r None c f g = ((λ a. refl), λ n. absurd (n (f refl)))
 decides ws w r (Some s) c f g = ((λ a. absurd (let e = g (a .0) (a .1) in let z : _≡_ {A = ℕ} 0 1 = cc in omega arith)), λ n. (s .0, s .1, refl, c))
 
-passes-earlier : (w : World) (o : Asked) → PassesEarlierChecks (view w) o → Passes (before-crowded w o)
-passes-earlier w o p = (ap isSome (p .head), (le-ltb _ _ (p .start), (le-ltb _ _ (p .on-disk), (le-ltb _ _ (p .buffers), tt))))
+passes-earlier : (w : World) (o : Asked) (n : ℕ) → length (w .disk) ≡ n → PassesEarlierChecks n (view w) o → Passes (before-crowded w o)
+passes-earlier w o n size p = (ap isSome (p .head), (le-ltb _ _ (p .start), (le-ltb _ _ (omega (arith, p .on-disk)), (le-ltb _ _ (p .buffers), tt))))
 
-pub crowded-law : (number : ℕ) (disk : List Block) (pool : List ℕ) → CrowdedExactlyWhenNoAssignment number disk pool
+pub crowded-law : (number : ℕ) (disk : List Block) (pool : List ℕ) → Start disk pool → CrowdedExactlyWhenNoAssignment number disk pool
 unfolding admit
-crowded-law number disk pool cs o v =
+crowded-law number disk pool start cs o v =
     let w : World = after (new number disk pool) cs in
+    let size = after-sound disk (new number disk pool) cs (new-sound number disk pool start) .base .disk .size in
     let Law : List Window → World × Answer → Type 0 = λ ws r. (Assignable ws → r .1 ≡ done) × ((Assignable ws → ⊥) → (l h : ℕ) × (r .1 ≡ refuse (Crowded (record { l = l; h = h }))) × FirstOverfull ws (l, h)) in
     let ws : List Window = charged-with (w .now) (w .lanes) o in
     let q = decision ws in
-    subst (λ t. PassesEarlierChecks t o → Law (charged-with (t .now) (t .lanes) o) (admit w o)) (sym (told-is number disk pool cs))
-    (λ p. subst (Law ws) (sym (last-decides w (before-crowded w o) (no-room w o) (admitted w o, done) (passes-earlier w o p)))
+    subst (λ t. PassesEarlierChecks (length disk) t o → Law (charged-with (t .now) (t .lanes) o) (admit w o)) (sym (told-is number disk pool cs))
+    (λ p. subst (Law ws) (sym (last-decides w (before-crowded w o) (no-room w o) (admitted w o, done) (passes-earlier w o (length disk) size p)))
     (decides ws w (admitted w o) (tried ws) (q .0) (q .1) (q .2)))
 
 -- the same bench, no earlier than slot t
@@ -146,9 +147,10 @@ pub shown-law : (number : ℕ) (disk : List Block) (pool : List ℕ) → Start d
 shown-law number disk pool start cs m e =
     let w : World = after (new number disk pool) cs in
     let s : Sound disk w = after-sound disk (new number disk pool) cs (new-sound number disk pool start) in
-    subst (λ t. Out (t .leases) m e → (e .slip ≡ false → show w (e .party) m .1 ≡ shown (block-at disk (e .block) .bytes))
+    subst (λ t. Out (t .leases) m e → (e .block < length disk) × (e .slip ≡ false → show w (e .party) m .1 ≡ shown (block-at disk (e .block) .bytes))
     × (e .slip ≡ true → show-slip w (record { lease = m; bench = number; party = e .party }) .1 ≡ shown (block-at disk (e .block) .bytes))
     × (block-at (t .disk) (e .block) .bytes ≡ block-at disk (e .block) .bytes)) (sym (told-is number disk pool cs)) (λ out. (
+      s .base .leases m e out .on-disk,
       shown-by-number disk w s m e out,
       subst (λ n. e .slip ≡ true → show-slip w (record { lease = m; bench = n; party = e .party }) .1 ≡ shown (block-at disk (e .block) .bytes))
           (after-onward (new number disk pool) cs .0) (shown-by-slip disk w s m e out),

@@ -63,6 +63,7 @@ module _ (d : List Block) (w : World) (s : Sound d w) where
       record {
         party = low;
         placed = t .settled .placed _ below;
+        on-disk = omega (arith, t .settled .on-disk, t .upto, ltb-true _ _ (q .0));
         bytes = t .bytes i (ltb-true _ _ (q .0)) (ltb-true _ _ (q .1));
         guarded = λ g j alive in′ same.
             let a = b .apart g h j (i % l .order .timing .depth) alive (p .0) in′ below same in

@@ -15,3 +15,5 @@ pub mod Lately
 pub mod Sharing
 pub mod Trials
 pub mod Spans
+pub mod Laws
+pub mod Requests

@@ -79,6 +79,7 @@ module _ (d : List Block) (w : World) (b : Base d w) where
             record {
               party = k .party;
               placed = k .placed;
+              on-disk = k .on-disk;
               bytes = k .bytes;
               guarded = λ h j alive.
                   let q = still-live t (w .leases) ls h alive in

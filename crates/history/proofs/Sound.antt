@@ -60,6 +60,7 @@ Guards now e h l = (j : ℕ) → IsLive l → j < l .order .timing .depth → ge
 pub record Kept (d : List Block) (now : ℕ) (pool : List ℕ) (ls : List (Option Lane)) (e : Lease) : Type 0 where
   pub party : e .party ≤ 3
   pub placed : e .buffer < 32
+  pub on-disk : e .block < length d
   pub bytes : bytes-in pool (e .buffer) ≡ block-at d (e .block) .bytes
   pub guarded : (h : ℕ) → Guards now e h (lane-at ls h)
 
@@ -134,6 +135,7 @@ module _ (d : List Block) (w : World) (b : Base d w) (k : ℕ) (o : Option Lane)
             record {
               party = t .party;
               placed = t .placed;
+              on-disk = t .on-disk;
               bytes = leased m e out ∙ t .bytes;
               guarded = λ h. set-at (λ z. Guards (w .now) e h (lane-in z)) ls k h o None inside
                   (λ q. subst (λ h. Guards (w .now) e h l) (sym q) (guards m e out)) (λ _. t .guarded h);

@@ -1,23 +1,26 @@
 -- What holds after every history of calls on a new bench.
 use mathlib.Core.Path.{_≡_}
-use mathlib.Core.Bool.{Bool, true, false, cond}
+use mathlib.Core.Bool.{Bool, true, false, cond, _&&_}
 use mathlib.Core.List.{List, [], _∷_, _++_}
 use Prim.Native.Nat.{ℕ, suc, _+_, _≤_, _<_}
+use lib.Dec.{ltb}
 use lib.ListN.{length, getD}
+use Rattle.std.specs.Options.{Cases}
 use Rattle.std.specs.declared.option.Option.{Option}
 use Rattle.std.specs.declared.option.Option.the-variants.{Some, None}
 use Rattle.refusal.specs.declared.Fault.{Fault}
 use Rattle.refusal.specs.declared.Refusal.the-variants.{Crowded}
 use Rattle.disk.specs.Meaning.{Block, ToCome, failures, dead, block-at, Proper}
 use Rattle.windows.specs.Windows.{Window, Assigned, FirstOverfull}
-use Rattle.schedule.specs.Orders.{deadline}
+use Rattle.schedule.specs.Choice.{Choice}
+use Rattle.schedule.specs.Orders.{deadline, release}
 use Rattle.history.specs.declared.Asked.{Asked}
 use Rattle.history.specs.declared.Lane.{Lane}
 use Rattle.history.specs.declared.Lease.{Lease}
 use Rattle.history.specs.declared.Ticked.{Ticked}
 use Rattle.history.specs.declared.Ticked.the-variants.{Idle, Read, Failed}
-use Rattle.history.specs.Bench.{Valid, World, Out, burn-end, buffer-of, free}
-use Rattle.history.specs.Calls.{Answer, refused, done, ticked, leased, slipped, shown, reported, refuse, charged-with, due, next-deadline, there, new, lease-told, tick, admit, take-block, show, show-slip, close}
+use Rattle.history.specs.Bench.{Valid, World, is-live, lane-at, Out, burn-end, buffer-of, free}
+use Rattle.history.specs.Calls.{Slip, Answer, refused, done, ticked, leased, slipped, shown, reported, refuse, charged-with, due, next-deadline, choice, there, new, lease-told, tick, admit, take-block, show, show-slip, close, report}
 use Rattle.history.specs.Told.{Call, admits, ticks, closes, call, after, answers, Told, lane-of, granted, told, tally, attempt-made, attempt-failed, of-tick}
 
 -- a disk, and a pool of 2,048 bytes, whatever they hold
@@ -28,11 +31,11 @@ pub record Start (disk : List Block) (pool : List ℕ) : Type 0 where
 -- ORDERS
 
 -- the checks before Crowded, of what is told: the head has no lane, the order does not start before now, its blocks are
--- on the disk, and there are buffers enough that no live lane has and no lease is out on
-pub record PassesEarlierChecks (t : Told) (o : Asked) : Type 0 where
+-- on the disk of that size, and there are buffers enough that no live lane has and no lease is out on
+pub record PassesEarlierChecks (size : ℕ) (t : Told) (o : Asked) : Type 0 where
   pub head : getD (t .lanes) (o .head) None ≡ None
   pub start : t .now ≤ o .timing .start
-  pub on-disk : o .first + o .timing .count ≤ length (t .disk)
+  pub on-disk : o .first + o .timing .count ≤ size
   pub buffers : o .timing .depth ≤ length (free (t .lanes) (t .leases))
 
 -- an assignment gives each attempt a slot in its window, and no slot twice
@@ -44,7 +47,7 @@ Assignable ws = (ss : List ℕ) × Assigned ws ss
 abbrev pub CrowdedExactlyWhenNoAssignment : ℕ → List Block → List ℕ → Type 0
 CrowdedExactlyWhenNoAssignment number disk pool =
     let w : World = new number disk pool in
-    (cs : List Call) (o : Asked) → Valid o → PassesEarlierChecks (told w cs) o
+    (cs : List Call) (o : Asked) → Valid o → PassesEarlierChecks (length disk) (told w cs) o
     → let ws : List Window = charged-with (told w cs .now) (told w cs .lanes) o in
     (Assignable ws → admit (after w cs) o .1 ≡ done)
     × ((Assignable ws → ⊥) → (l h : ℕ) × (admit (after w cs) o .1 ≡ refuse (Crowded (record { l = l; h = h }))) × FirstOverfull ws (l, h))
@@ -93,12 +96,13 @@ TakenWhileItBurns number disk pool =
     → (m : ℕ) × (take-block (after w (upto number disk pool before o v since)) (o .head) i party slip .1 ≡ lease-told number m party slip)
 
 -- Show of a lease that is out, by its slip if it has one and else by its party, answers the bytes that the disk holds for
--- its block.
+-- its block: those of the disk that the bench began with, and still those of the disk as it is now.
 abbrev pub ShownAsOnDisk : ℕ → List Block → List ℕ → Type 0
 ShownAsOnDisk number disk pool =
     let w : World = new number disk pool in
     (cs : List Call) (m : ℕ) (e : Lease) → Out (told w cs .leases) m e
-    → (e .slip ≡ false → show (after w cs) (e .party) m .1 ≡ shown (block-at disk (e .block) .bytes))
+    → (e .block < length disk)
+    × (e .slip ≡ false → show (after w cs) (e .party) m .1 ≡ shown (block-at disk (e .block) .bytes))
     × (e .slip ≡ true → show-slip (after w cs) (record { lease = m; bench = number; party = e .party }) .1 ≡ shown (block-at disk (e .block) .bytes))
     × (block-at (told w cs .disk) (e .block) .bytes ≡ block-at disk (e .block) .bytes)
 
@@ -137,6 +141,16 @@ ReadsEarliestDeadline number disk pool =
     let w : World = new number disk pool in
     (cs : List Call) (f : Fault) → Serves (told w cs .now) (lane-of (told w cs)) (tick (after w cs) f .1)
 
+-- when head j's lowest unread block may be read; not by slot t where there is none
+abbrev pub ready : ℕ → List (Option Lane) → ℕ → ℕ
+ready t ls j =
+    let l : Lane = lane-at ls j in
+    cond (is-live (l .stage) && ltb (l .next) (l .order .timing .count)) (release (l .order .timing) (l .admitted) (l .next)) (suc t)
+
+-- Tick's choice is that of the deadline-driven rule.
+abbrev pub ChoiceIsTheRule : Type 0
+ChoiceIsTheRule = (t : ℕ) (ls : List (Option Lane)) → Cases (choice t ls) ((j : ℕ) → t < ready t ls j) (λ c. Choice t (length ls) (ready t ls) (λ j. next-deadline (lane-at ls j)) (c .0))
+
 -- The tally of attempts is the number of ticks that answered read or failed, and that of failed attempts the number of
 -- those that answered failed.
 abbrev pub TalliesCountTicks : ℕ → List Block → List ℕ → Type 0
@@ -149,6 +163,11 @@ TalliesCountTicks number disk pool =
 -- A refused call leaves everything unaltered.
 abbrev pub RefusedAltersNothing : Type 0
 RefusedAltersNothing = (w : World) (c : Call) (ns : List ℕ) → call w c .1 ≡ refused ns → call w c .0 ≡ w
+
+-- Neither a show nor a report alters anything.
+abbrev pub LooksAlterNothing : Type 0
+LooksAlterNothing = (w : World)
+    → ((party m : ℕ) → show w party m .0 ≡ w) × ((s : Slip) → show-slip w s .0 ≡ w) × ((h : ℕ) → report w h .0 ≡ w)
 
 -- No two blocks that are there lie in the same buffer; where one lies in the buffer of a lease that is out, the lease is
 -- on that very block; and a take answers a lease number that was not out.
@@ -169,6 +188,8 @@ pub record BenchLaws (number : ℕ) (disk : List Block) (pool : List ℕ) : Type
   pub shown-law : ShownAsOnDisk number disk pool
   pub lane-law : SlotTellsLane number disk pool
   pub rule-law : ReadsEarliestDeadline number disk pool
+  pub choice-law : ChoiceIsTheRule
   pub tally-law : TalliesCountTicks number disk pool
   pub refused-law : RefusedAltersNothing
+  pub looks-law : LooksAlterNothing
   pub shared-law : NothingShared number disk pool
