@@ -1,2 +1,4 @@
 pub mod Sound
+pub mod Orders
+pub mod Free
 pub mod Model

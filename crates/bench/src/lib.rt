@@ -2,5 +2,6 @@
 mod admission;
 mod lane;
 mod leases;
+mod order;
 mod state;
 mod ticking;
