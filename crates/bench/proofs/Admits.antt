@@ -1,8 +1,8 @@
 -- What admission does to a bench.
 use mathlib.Core.Path.{_≡_, refl, sym, ap, subst, _∙_}
-use mathlib.Core.Bool.{Bool, true, false, cond, not, _&&_, _||_}
+use mathlib.Core.Bool.{Bool, true, false, cond, not, _||_}
 use mathlib.Core.List.{List, [], _∷_, _++_}
-use Prim.Native.Nat.{ℕ, zero, suc, _+_, _-_, _≤_, _<_, min}
+use Prim.Native.Nat.{ℕ, zero, suc, _+_, _-_, _≤_, _<_}
 use native.Mathlib.Omega.{arith}
 use lib.Dec.{eqb, ltb}
 use lib.ListN.{length, getD, set, take, drop, replicate}
@@ -17,11 +17,11 @@ use Rattle.std.proofs.shelf.Tests.{lt-ltb, le-ltb, and-from}
 use Rattle.std.proofs.shelf.Ways.{tells}
 use Rattle.refusal.specs.declared.Refusal.the-variants.{HeadTaken, Past, OffDisk, PoolShort, Crowded}
 use Rattle.refusal.specs.declared.Span.{Span}
-use Rattle.std.proofs.shelf.Counted.{getD-counting, length-counting}
+use Rattle.std.proofs.shelf.Counted.{getD-counting}
 use Rattle.std.proofs.shelf.Elements.{kept-by-more}
 use Rattle.history.specs.Bench.{any, some-and, has, in-use, free, is-live, work, works}
 use Rattle.history.specs.Bench.{World}
-use Rattle.history.specs.Calls.{Answer, done, refuse, checked, with-lanes, new-lane, new-work, charged-with, span-told, before-crowded, no-room, admitted, admit}
+use Rattle.history.specs.Calls.{Answer, done, refuse, checked, new-lane, new-work, charged-with, span-told, before-crowded, no-room, admitted, admit}
 use Rattle.history.proofs.Buffers.{free-small}
 use Rattle.history.proofs.Checks.{Passes, last-decides}
 use Rattle.history.proofs.Spans.{ends, tried-is}
@@ -32,7 +32,7 @@ use Rattle.schedule.specs.Answers.{Limits, FirstOverfullOrNone}
 use Rattle.schedule.specs.Orders.{Proper, WithinLimits}
 use Rattle.schedule.specs.declared.Timing.{Timing}
 use Rattle.schedule.specs.declared.Work.{Work}
-use Rattle.bench.specs.Free.{CanBeTried}
+use Rattle.bench.specs.Admits.{CanBeTried}
 use Rattle.bench.specs.Sound.{every, timing-ok, order-ok, all-below, live-ok, lane-ok}
 use Rattle.history.specs.declared.Lane.{Lane}
 use Rattle.history.specs.declared.Lease.{Lease}

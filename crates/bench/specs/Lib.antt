@@ -1,4 +1,4 @@
 pub mod Sound
 pub mod Orders
-pub mod Free
+pub mod Admits
 pub mod Model

@@ -1,10 +1,9 @@
 // Admitting an order: the checks, and the lane that it begins.
-ghost use mathlib.Core.Bool.{_||_};
 ghost use mathlib.Core.Path.{_≡_};
 ghost use Prim.Native.Nat.{ℕ, _≤_};
 ghost use lib.ListN.{length, take};
 ghost use mathlib.Core.List.{List, _∷_};
-ghost use Rattle.bench.specs.Free.{lane-uses, lease-uses, LowestOrTooFew, CanBeTried};
+ghost use Rattle.bench.specs.Admits.{lane-uses, lease-uses, LowestOrTooFew, CanBeTried};
 ghost use Rattle.bench.specs.Orders.{asking, OrderedExactlyWithinLimits};
 ghost use Rattle.history.specs.Bench.{any, some-and, has, in-use, free, works};
 ghost use Rattle.history.specs.Calls.{answered, done, admit, charged-with, new-work};
@@ -61,13 +60,6 @@ impl<D: Disk> Bench<D> {
     }
 }
 
-// The first `len` are those that count.
-#[derive(Drop)]
-struct Works {
-    all: [Work; 8],
-    len: usize,
-}
-
 impl Order {
     // `count` blocks of the disk from `first` on for a head, block i to burn for `period` slots from
     // `start` + i·`period` on, through `depth` buffers, each block with `spare` attempts more than one.
@@ -118,6 +110,13 @@ fn crowding(slot: u32, asked: &Asked, lanes: &[Option<Lane>]) -> Option<Span>
         Ok(span) => span,
         Err(_) => unreachable(),
     }
+}
+
+// The first `len` are those that count.
+#[derive(Drop)]
+struct Works {
+    all: [Work; 8],
+    len: usize,
 }
 
 // What is left of the order that is to be admitted, all of it, and then of each live lane by rising head.

@@ -1,4 +1,4 @@
-use mathlib.Core.Path.{_≡_, refl, sym, subst}
+use mathlib.Core.Path.{sym, subst}
 use mathlib.Core.List.{List, _∷_}
 use Rattle.std.specs.declared.result.Result.the-variants.{Ok}
 use Rattle.history.specs.Bench.{works}

@@ -1,7 +1,7 @@
 use mathlib.Core.Path.{_≡_}
 use lib.ListN.{drop}
 use Rattle.history.specs.Bench.{any}
-use Rattle.bench.specs.Free.{lane-uses}
+use Rattle.bench.specs.Admits.{lane-uses}
 use Rattle.bench.proofs.admission.lanes_use.Given as given
 
 abbrev pub Inv-loop-k : given.InvT-loop-k

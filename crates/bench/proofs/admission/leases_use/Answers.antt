@@ -1,6 +1,6 @@
 use native.Mathlib.Omega.{arith}
 use Rattle.std.proofs.shelf.Ways.{tells}
-use Rattle.bench.specs.Free.{lease-uses}
+use Rattle.bench.specs.Admits.{lease-uses}
 use Rattle.bench.proofs.Admits.{any-more, any-end}
 use Rattle.bench.proofs.admission.leases_use.Needs as need
 

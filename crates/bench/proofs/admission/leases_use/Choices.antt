@@ -1,7 +1,7 @@
 use mathlib.Core.Path.{_≡_}
 use lib.ListN.{drop}
 use Rattle.history.specs.Bench.{any}
-use Rattle.bench.specs.Free.{lease-uses}
+use Rattle.bench.specs.Admits.{lease-uses}
 use Rattle.bench.proofs.admission.leases_use.Given as given
 
 abbrev pub Inv-loop-k : given.InvT-loop-k

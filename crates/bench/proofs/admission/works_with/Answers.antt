@@ -1,12 +1,11 @@
-use mathlib.Core.Path.{_≡_, refl, sym, ap, _∙_}
+use mathlib.Core.Path.{_≡_, sym, ap, _∙_}
 use mathlib.Core.List.{List, _∷_, _++_}
 use Prim.Native.Nat.{_+_, _<_}
 use native.Mathlib.Omega.{arith}
-use lib.ListN.{length, take, drop}
+use lib.ListN.{take, drop}
 use Rattle.std.proofs.shelf.Lists.{append-nil, at-drop-all, length-set}
 use Rattle.history.specs.Bench.{is-live, work, works}
 use Rattle.history.specs.Calls.{new-work}
-use Rattle.history.specs.declared.Stage.{Stage}
 use Rattle.schedule.specs.declared.Work.{Work}
 use Rattle.bench.proofs.Admits.{not-live, works-empty, works-ended, works-live, put-room, put-more}
 use Rattle.bench.proofs.admission.works_with.Needs as need
