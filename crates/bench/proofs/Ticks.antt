@@ -2,7 +2,9 @@
 use mathlib.Core.Path.{_≡_, refl, sym, ap, subst, _∙_}
 use mathlib.Core.Bool.{Bool, true, false, cond, not, _&&_, _||_}
 use mathlib.Core.List.{List, [], _∷_, _++_, map}
+use mathlib.Core.Logic.{inl, inr}
 use Prim.Native.Nat.{ℕ, zero, suc, _+_, _-_, _*_, _%_, _<_, _≤_}
+use native.Mathlib.Nat.{mul-mod-left}
 use native.Mathlib.Numerals.{add-one}
 use native.Mathlib.Omega.{arith}
 use lib.Dec.{leb, ltb, eqb}
@@ -15,7 +17,7 @@ use Rattle.std.specs.declared.result.Result.{Result}
 use Rattle.std.specs.declared.result.Result.the-variants.{Ok, Err}
 use Rattle.std.proofs.shelf.Elements.{all-weaker}
 use Rattle.std.proofs.shelf.Lists.{append-assoc, append-nil, length-map, length-take, length-drop, take-all, drop-all, drop-more, drop-drop, take-append-drop, map-more, getD-at, set-at, at-drop-more, at-drop-all}
-use Rattle.std.proofs.shelf.Tests.{both-ways, false≢true, cond-both, ltb-true}
+use Rattle.std.proofs.shelf.Tests.{both-ways, cases-bool, false≢true, cond-both, ltb-true}
 use Rattle.std.proofs.shelf.Ways.{tells}
 use Rattle.refusal.specs.Told.{refusal-number, answer-number}
 use Rattle.refusal.specs.declared.Fault.{Fault}
@@ -26,6 +28,7 @@ use Rattle.disk.specs.Meaning.{Block, Reads, block-at, none-coming, read-number
 use Rattle.queue.specs.declared.request.ReadRequest.{ReadRequest}
 use Rattle.queue.specs.Order.{Foremost}
 use Rattle.schedule.specs.Orders.{deadline}
+use Rattle.schedule.specs.declared.Timing.{Timing}
 use Rattle.history.specs.declared.Event.{Event}
 use Rattle.history.specs.declared.Event.the-variants.{FailedAttempt, BlockRead, BurnEnd}
 use Rattle.history.specs.declared.Lane.{Lane}
@@ -40,7 +43,7 @@ use Rattle.history.proofs.Checks.{passes}
 use Rattle.history.proofs.Choosing.{deadline-up, chosen, Chosen, Idle as NoneDue}
 use Rattle.history.proofs.Requests.{requested-first, requested-nothing}
 use Rattle.bench.specs.Sound.{every, lane-ok, live-ok, order-ok, all-below}
-use Rattle.bench.specs.Ticks.{request-before, deadline-of, head-of, chosen-by, fault-in, failures-in, readable, Fault-at, Told-from, Attempted}
+use Rattle.bench.specs.Ticks.{request-before, deadline-of, head-of, chosen-by, fault-in, failures-in, may-end, readable, Fault-at, Told-from, Attempted}
 use Rattle.bench.proofs.Sound.{every-at}
 
 -- what stands on a head is sound
@@ -283,3 +286,34 @@ pub told-from : (P : ℕ → Fault → Type 0) (ls : List (Option Lane)) (h : �
 told-from P ls h Idle p = tt
 told-from P ls h (Read g i) p = tt
 told-from P ls h (Failed g i a f) p = subst (λ k. P (next-block (lane-at ls k)) f) (sym (p .0)) (p .1)
+
+-- BURNS THAT DO NOT END
+
+multiple : (s p t i : ℕ) → (leb s t && eqb ((t - s) % p) 0) ≡ false → eqb (s + i * p) t ≡ false
+multiple s p t i none = elim (cases-bool (eqb (s + i * p) t)) [
+  | inl e ↦ (let at : s + i * p ≡ t = grind (arith, tells) in let gap : t - s ≡ i * p = omega arith in let rest : (t - s) % p ≡ 0 = ap (λ x. x % p) gap ∙ mul-mod-left i p in grind (arith, tells))
+  | inr e ↦ e
+]
+
+and-third : (a b c : Bool) → c ≡ false → (a && (b && c)) ≡ false
+and-third true true c e = e
+and-third true false c e = refl
+and-third false b c e = refl
+
+any-false : {A : Type 0} (p : A → Bool) → ((a : A) → p a ≡ false) → (os : List (Option A)) → any p os ≡ false
+any-false p k [] = refl
+any-false p k (None ∷ os) = any-false p k os
+any-false p k (Some a ∷ os) = ap (λ b. b || any p os) (k a) ∙ any-false p k os
+
+still : (l : Lane) → happens l (BurnEnd false false) ≡ l
+still l = cond-both (is-live (l .stage)) (on-live l (BurnEnd false false)) l (λ x. x ≡ l) (λ _. refl) (λ _. refl)
+
+pub not-aged : (t : ℕ) (es : List (Option Lease)) (l : Lane) → may-end t (l .order .timing) ≡ false → aged t es l ≡ l
+not-aged t es l none =
+    let o : Timing = l .order .timing in
+    let free = any-false (holds-up t l) (λ e. and-third (eqb (e .head) (l .order .head)) (eqb (e .admitted) (l .admitted)) _ (multiple (o .start) (o .period) t (e .index + 1) none)) es in
+    let more = multiple (o .start) (o .period) t (o .count) none in
+    (λ i. happens l (BurnEnd (free i) (more i))) ∙ still l
+
+pub period-some : (l : Lane) → live-ok l ≡ true → 1 ≤ l .order .timing .period
+period-some l e = grind (arith, tells)

@@ -1,7 +1,7 @@
 // One slot of a bench: the read of the earliest deadline, and the burns that end.
 ghost use mathlib.Core.Path.{_≡_};
 ghost use mathlib.Core.Bool.{true, false};
-ghost use Prim.Native.Nat.{_<_};
+ghost use Prim.Native.Nat.{_<_, _≤_};
 ghost use lib.ListN.{length};
 ghost use Rattle.std.specs.Options.{Cases as BySome};
 ghost use Rattle.queue.specs.Held.{held, room};
@@ -10,7 +10,7 @@ ghost use Rattle.history.specs.Bench.{any, some-and, lane-in, lane-at};
 ghost use Rattle.history.specs.Calls.{answered, ticked, tick, served, due, choice, next-block, holds-up, changed, aged, all-aged};
 ghost use Rattle.bench.specs.Model.{world};
 ghost use Rattle.bench.specs.Sound.{every, lane-ok, live-ok};
-ghost use Rattle.bench.specs.Ticks.{RequestOf, Offered, chosen-by, fault-in, fault-told, failures-in, Fault-at, Told-from, Attempted};
+ghost use Rattle.bench.specs.Ticks.{RequestOf, Offered, chosen-by, may-end, fault-in, fault-told, failures-in, Fault-at, Told-from, Attempted};
 use crate::lane::step;
 use crate::state::Bench;
 use disk::Disk;
@@ -24,6 +24,7 @@ use queue::request::ReadRequest;
 use queue::request::ReadRequestOrdered;
 use queue::request::ReadRequestTotal;
 use refusal::Refusal;
+use schedule::Timing;
 
 impl<D: Disk> Bench<D> {
     // One slot: at most one read, and then the burns that end.
@@ -184,9 +185,24 @@ fn age(slot: u32, leases: &[Option<Lease>], lane: &mut Option<Lane>)
     let Stage::Live = lane.stage else {
         return;
     };
+    if !may_end(slot, &lane.order.timing) {
+        return;
+    }
     let held = is_held(slot, lane, leases);
     let last = lane.order.timing.deadline(lane.order.timing.count) == slot as u64;
     step(lane, Event::BurnEnd { held, last });
+}
+
+// Whether `slot` is a whole number of periods after the start. A burn ends at no other slot, so that most slots pass
+// without a look at the leases.
+fn may_end(slot: u32, timing: &Timing) -> bool
+    requires { ⌜ 1 ≤ now timing .period ⌝ }
+    ensures { λ r. ⌜ r ≡ may-end slot (now (timing .entry)) ⌝ }
+{
+    if slot < timing.start {
+        return false;
+    }
+    (slot - timing.start) % timing.period == 0
 }
 
 // Whether a lease taken in this lane is out on a block whose burn ends at `slot`.
