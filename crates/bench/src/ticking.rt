@@ -59,11 +59,10 @@ impl<D: Disk> Bench<D> {
         ensures bench { λ r. ⌜ world (D·Disk .meaning) (now (pool .exit)) (now (self .exit)) ≡ served (world (D·Disk .meaning) (now (pool .entry)) (now (self .entry))) (fault-in r) (Some (head, 0)) .0 ⌝ }
         ensures origin { λ r. ⌜ Fault-at head (D·Disk .faults (now (self .entry) .disk) (next-block (lane-at (now (self .entry) .lanes) head))) r ⌝ }
     {
-        let slot = self.lanes[head as usize];
-        let Some(found) = slot else { unreachable() };
-        let mut lane = found;
-        let told = attempt(&mut self.disk, &mut lane, head, pool);
-        self.lanes[head as usize] = Some(lane);
+        let Some(lane) = &mut self.lanes[head as usize] else {
+            unreachable()
+        };
+        let told = attempt(&mut self.disk, lane, head, pool);
         self.attempts += 1;
         self.failures += failures_in(&told);
         self.now += 1;
