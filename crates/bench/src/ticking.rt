@@ -49,9 +49,7 @@ impl<D: Disk> Bench<D> {
             Some(request) => Ok(self.serve(request.head as u32, pool)),
         }
     }
-}
 
-impl<D: Disk> Bench<D> {
     // A slot with a read for the lane of a head, which is due.
     fn serve(&mut self, head: u32, pool: &mut [u8]) -> Ticked
         requires { ⌜ head < 8 ⌝ ∗ ⌜ due (now self .now) (lane-at (now self .lanes) head) ≡ true ⌝ ∗ ⌜ length (now pool) ≡ 2048 ⌝ ∗ ⌜ now self .now < 1000000 ⌝ }
