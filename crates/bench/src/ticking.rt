@@ -1,6 +1,7 @@
 // One slot of a bench: the read of the earliest deadline, and the burns that end.
 ghost use mathlib.Core.Path.{_≡_};
 ghost use mathlib.Core.Bool.{true, false};
+ghost use mathlib.Core.List.{[]};
 ghost use Prim.Native.Nat.{_<_, _≤_};
 ghost use lib.ListN.{length};
 ghost use Rattle.std.specs.Options.{Cases as BySome};
@@ -8,9 +9,10 @@ ghost use Rattle.queue.specs.Held.{held, room};
 ghost use Rattle.std.specs.declared.option.Option.the-variants.{Some};
 ghost use Rattle.history.specs.Bench.{any, some-and, lane-in, lane-at};
 ghost use Rattle.history.specs.Calls.{answered, ticked, tick, served, due, choice, next-block, holds-up, changed, aged, all-aged};
+ghost use Rattle.history.specs.Requests.{Requested};
 ghost use Rattle.bench.specs.Model.{world};
 ghost use Rattle.bench.specs.Sound.{every, lane-ok, live-ok};
-ghost use Rattle.bench.specs.Ticks.{RequestOf, Offered, chosen-by, may-end, fault-in, fault-told, failures-in, Fault-at, Told-from, Attempted};
+ghost use Rattle.bench.specs.Ticks.{deadline-of, head-of, RequestOf, Offered, chosen-by, may-end, fault-in, fault-told, failures-in, Fault-at, Told-from, Attempted};
 use crate::lane::step;
 use crate::state::Bench;
 use disk::Disk;
@@ -113,6 +115,10 @@ fn choose(slot: u32, lanes: &[Option<Lane>]) -> Option<ReadRequest>
     requires { ⌜ length (now lanes) ≡ 8 ⌝ ∗ ⌜ every lane-ok (now lanes) ≡ true ⌝ }
     ensures { λ r. ⌜ chosen-by r ≡ choice slot (now (lanes .entry)) ⌝ }
 {
+    let first = first_due(slot, lanes);
+    if first == lanes.len() {
+        return None;
+    }
     let none = ReadRequest {
         deadline: 0,
         head: 0,
@@ -120,10 +126,24 @@ fn choose(slot: u32, lanes: &[Option<Lane>]) -> Option<ReadRequest>
     };
     let mut memory = [none; 8];
     let mut queue = Queue::new(&mut memory);
-    for head in 0..lanes.len() {
+    for head in first..lanes.len() {
         offer(&mut queue, slot, head as u8, &lanes[head]);
     }
     queue.first()
+}
+
+// The first head whose lane is due, or how many there are: an idle slot needs no queue.
+fn first_due(slot: u32, lanes: &[Option<Lane>]) -> usize
+    requires { ⌜ length (now lanes) ≡ 8 ⌝ ∗ ⌜ every lane-ok (now lanes) ≡ true ⌝ }
+    ensures within { λ r. ⌜ r ≤ length (now (lanes .entry)) ⌝ }
+    ensures before { λ r. ⌜ Requested deadline-of head-of slot (now (lanes .entry)) r [] ⌝ }
+{
+    for head in 0..lanes.len() {
+        if let Some(_) = request(slot, head as u8, &lanes[head]) {
+            return head;
+        }
+    }
+    lanes.len()
 }
 
 // Puts the request of a head's lane, if it is due.
