@@ -2,7 +2,9 @@
 use mathlib.Core.Path.{_≡_, refl, sym, ap, subst, _∙_}
 use mathlib.Core.Bool.{Bool, true, false, cond, not, _&&_, _||_}
 use mathlib.Core.List.{List, [], _∷_, _++_, map}
+use mathlib.Core.Logic.{inl, inr}
 use Prim.Native.Nat.{ℕ, zero, suc, _+_, _-_, _*_, _%_, _<_, _≤_}
+use native.Mathlib.Nat.{mul-mod-left}
 use native.Mathlib.Numerals.{add-one}
 use native.Mathlib.Omega.{arith}
 use lib.Dec.{leb, ltb, eqb}
@@ -15,7 +17,7 @@ use Rattle.std.specs.declared.result.Result.{Result}
 use Rattle.std.specs.declared.result.Result.the-variants.{Ok, Err}
 use Rattle.std.proofs.shelf.Elements.{all-weaker}
 use Rattle.std.proofs.shelf.Lists.{append-assoc, append-nil, length-map, length-take, length-drop, take-all, drop-all, drop-more, drop-drop, take-append-drop, map-more, getD-at, set-at, at-drop-more, at-drop-all}
-use Rattle.std.proofs.shelf.Tests.{both-ways, false≢true, cond-both, ltb-true}
+use Rattle.std.proofs.shelf.Tests.{both-ways, cases-bool, false≢true, cond-both, ltb-true}
 use Rattle.std.proofs.shelf.Ways.{tells}
 use Rattle.refusal.specs.Told.{refusal-number, answer-number}
 use Rattle.refusal.specs.declared.Fault.{Fault}
@@ -26,6 +28,7 @@ use Rattle.disk.specs.Meaning.{Block, Reads, block-at, none-coming, read-number
 use Rattle.queue.specs.declared.request.ReadRequest.{ReadRequest}
 use Rattle.queue.specs.Order.{Foremost}
 use Rattle.schedule.specs.Orders.{deadline}
+use Rattle.schedule.specs.declared.Timing.{Timing}
 use Rattle.history.specs.declared.Event.{Event}
 use Rattle.history.specs.declared.Event.the-variants.{FailedAttempt, BlockRead, BurnEnd}
 use Rattle.history.specs.declared.Lane.{Lane}
@@ -40,8 +43,8 @@ use Rattle.history.proofs.Checks.{passes}
 use Rattle.history.proofs.Choosing.{deadline-up, chosen, Chosen, Idle as NoneDue}
 use Rattle.history.proofs.Requests.{requested-first, requested-nothing}
 use Rattle.bench.specs.Sound.{every, lane-ok, live-ok, order-ok, all-below}
-use Rattle.bench.specs.Ticks.{request-before, deadline-of, head-of, chosen-by, fault-in, failures-in, readable, Fault-at, Told-from, Attempted}
-use Rattle.bench.proofs.Sound.{every-at}
+use Rattle.bench.specs.Ticks.{request-before, deadline-of, head-of, chosen-by, fault-in, failures-in, may-end, readable, Fault-at, Told-from, Attempted}
+use Rattle.bench.proofs.Sound.{every-at, every-set-some}
 
 -- what stands on a head is sound
 pub ok-at : (os : List (Option Lane)) (h : ℕ) (o : Option Lane) → every lane-ok os ≡ true → getD os h None ≡ o → lane-ok (lane-in o) ≡ true
@@ -82,7 +85,7 @@ and-last true true false d e h = absurd (false≢true e)
 and-last true false c d e h = absurd (false≢true h)
 and-last false b c d e h = absurd (false≢true h)
 
-pub ok-live : (l : Lane) → is-live (l .stage) ≡ true → lane-ok l ≡ true → live-ok l ≡ true
+ok-live : (l : Lane) → is-live (l .stage) ≡ true → lane-ok l ≡ true → live-ok l ≡ true
 ok-live l e h = and-last (leb (l .next) 4096) (leb (l .failed) 16) (is-live (l .stage)) (live-ok l) e h
 
 pub live-from-ok : (o : Option Lane) (l : Lane) → o ≡ Some l → l .stage ≡ Live → lane-ok (lane-in o) ≡ true → live-ok l ≡ true
@@ -135,13 +138,13 @@ and-fifth : (a b c d e : Bool) → (a && (b && (c && (d && e)))) ≡ true → e 
 and-fifth a b c d e h = and-second d e (and-second c (d && e) (and-second b (c && (d && e)) (and-second a (b && (c && (d && e))) h)))
 
 -- a lane that is due is live and has a block unread
-pub due-live : (t : ℕ) (l : Lane) → due t l ≡ true → is-live (l .stage) ≡ true
+due-live : (t : ℕ) (l : Lane) → due t l ≡ true → is-live (l .stage) ≡ true
 due-live t l e = and-first (is-live (l .stage)) _ e
 
-pub due-unread : (t : ℕ) (l : Lane) → due t l ≡ true → l .next < l .order .timing .count
+due-unread : (t : ℕ) (l : Lane) → due t l ≡ true → l .next < l .order .timing .count
 due-unread t l e = ltb-true (l .next) (l .order .timing .count) (and-first (ltb (l .next) (l .order .timing .count)) _ (and-second (is-live (l .stage)) _ e))
 
-pub due-found : (t : ℕ) (ls : List (Option Lane)) (h : ℕ) (l : Lane) → getD ls h None ≡ Some l → due t (lane-at ls h) ≡ true → due t l ≡ true
+due-found : (t : ℕ) (ls : List (Option Lane)) (h : ℕ) (l : Lane) → getD ls h None ≡ Some l → due t (lane-at ls h) ≡ true → due t l ≡ true
 due-found t ls h l is e = subst (λ o. due t (lane-in o) ≡ true) is e
 
 below-at : (n : ℕ) (xs : List ℕ) (k : ℕ) → 0 < n → all-below n xs ≡ true → getD xs k 0 < n
@@ -228,7 +231,7 @@ faulted-ok l f e = grind (arith, tells)
 abbrev LaneOk : Lane → Type 0
 LaneOk x = lane-ok x ≡ true
 
-pub attempted-ok : (m : List Block) (l : Lane) (h : ℕ) (pool : List ℕ) (r : Ticked) (m′ : List Block) (l′ : Lane) (pool′ : List ℕ) → is-live (l .stage) ≡ true → live-ok l ≡ true → l .next < l .order .timing .count → Attempted m l h pool r m′ l′ pool′ → lane-ok l′ ≡ true
+attempted-ok : (m : List Block) (l : Lane) (h : ℕ) (pool : List ℕ) (r : Ticked) (m′ : List Block) (l′ : Lane) (pool′ : List ℕ) → is-live (l .stage) ≡ true → live-ok l ≡ true → l .next < l .order .timing .count → Attempted m l h pool r m′ l′ pool′ → lane-ok l′ ≡ true
 attempted-ok m l h pool r m′ l′ pool′ live ok lt a =
     subst LaneOk (sym (a .lane)) (cond-both (readable m l) (happens l BlockRead) (happens l (FailedAttempt (fault-in r))) LaneOk
     (λ _. cond-both (is-live (l .stage)) (on-live l BlockRead) l LaneOk (λ _. read-ok l ok lt) (λ no. absurd (both-ways _ no live)))
@@ -258,14 +261,30 @@ failures-few Idle = omega arith
 failures-few (Read h i) = omega arith
 failures-few (Failed h i a f) = omega arith
 
+-- of the lane that is due on a head, and of all lanes after its read
+pub due-ok : (t : ℕ) (ls : List (Option Lane)) (h : ℕ) (l : Lane) → every lane-ok ls ≡ true → getD ls h None ≡ Some l → due t (lane-at ls h) ≡ true → (live-ok l ≡ true) × (l .next < l .order .timing .count)
+due-ok t ls h l ok is e = let d = due-found t ls h l is e in (ok-live l (due-live t l d) (every-at lane-ok ls h l ok is), due-unread t l d)
+
+pub attempted-every : (t : ℕ) (ls : List (Option Lane)) (h : ℕ) (l : Lane) (m : List Block) (pool : List ℕ) (r : Ticked) (m′ : List Block) (l′ : Lane) (pool′ : List ℕ) → every lane-ok ls ≡ true → getD ls h None ≡ Some l → due t (lane-at ls h) ≡ true → Attempted m l h pool r m′ l′ pool′ → every lane-ok (set ls h (Some l′)) ≡ true
+attempted-every t ls h l m pool r m′ l′ pool′ ok is e a =
+    let d = due-ok t ls h l ok is e in
+    every-set-some lane-ok ls h l′ ok (attempted-ok m l h pool r m′ l′ pool′ (due-live t l (due-found t ls h l is e)) (d .0) (d .1) a)
+
 -- TICKS
 
-pub tick-served : (w : World) (f : Fault) → length (w .pool) ≡ 2048 → (w .now ≡ 1000000 → ⊥) → tick w f ≡ served w f (choice (w .now) (w .lanes))
+tick-served : (w : World) (f : Fault) → length (w .pool) ≡ 2048 → (w .now ≡ 1000000 → ⊥) → tick w f ≡ served w f (choice (w .now) (w .lanes))
 unfolding tick
 tick-served w f len more =
     let size : not (eqb (length (w .pool)) 2048) ≡ false = grind (arith, tells) in
     let time : eqb (w .now) 1000000 ≡ false = grind (arith, tells) in
     passes w (tick-checks w) (served w f (choice (w .now) (w .lanes))) (size, (time, tt))
+
+-- nothing is chosen, or q
+pub tick-idle : (w : World) (f : Fault) → length (w .pool) ≡ 2048 → (w .now ≡ 1000000 → ⊥) → chosen-by None ≡ choice (w .now) (w .lanes) → (passed w ≡ tick w f .0) × (ticked Idle ≡ tick w f .1)
+tick-idle w f len more e = let s = sym (tick-served w f len more ∙ ap (served w f) (sym e)) in (ap (λ x. x .0) s, ap (λ x. x .1) s)
+
+pub tick-chosen : (w : World) (f : Fault) (q : ReadRequest) → length (w .pool) ≡ 2048 → (w .now ≡ 1000000 → ⊥) → chosen-by (Some q) ≡ choice (w .now) (w .lanes) → (served w f (Some (q .head, 0)) .0 ≡ tick w f .0) × (served w f (Some (q .head, 0)) .1 ≡ tick w f .1)
+tick-chosen w f q len more e = let s = sym (tick-served w f len more ∙ ap (served w f) (sym e)) in (ap (λ x. x .0) s, ap (λ x. x .1) s)
 
 pub passed-is : (w : World) (ls : List (Option Lane)) → ls ≡ all-aged (w .now + 1) (w .leases) (w .lanes) → record { number = w .number; now = w .now + 1; lanes = ls; leases = w .leases; disk = w .disk; pool = w .pool; attempts = w .attempts; failures = w .failures } ≡ passed w
 passed-is w ls e = λ i. record {
@@ -283,3 +302,34 @@ pub told-from : (P : ℕ → Fault → Type 0) (ls : List (Option Lane)) (h : �
 told-from P ls h Idle p = tt
 told-from P ls h (Read g i) p = tt
 told-from P ls h (Failed g i a f) p = subst (λ k. P (next-block (lane-at ls k)) f) (sym (p .0)) (p .1)
+
+-- BURNS THAT DO NOT END
+
+multiple : (s p t i : ℕ) → (leb s t && eqb ((t - s) % p) 0) ≡ false → eqb (s + i * p) t ≡ false
+multiple s p t i none = elim (cases-bool (eqb (s + i * p) t)) [
+  | inl e ↦ (let at : s + i * p ≡ t = grind (arith, tells) in let gap : t - s ≡ i * p = omega arith in let rest : (t - s) % p ≡ 0 = ap (λ x. x % p) gap ∙ mul-mod-left i p in grind (arith, tells))
+  | inr e ↦ e
+]
+
+and-third : (a b c : Bool) → c ≡ false → (a && (b && c)) ≡ false
+and-third true true c e = e
+and-third true false c e = refl
+and-third false b c e = refl
+
+any-false : {A : Type 0} (p : A → Bool) → ((a : A) → p a ≡ false) → (os : List (Option A)) → any p os ≡ false
+any-false p k [] = refl
+any-false p k (None ∷ os) = any-false p k os
+any-false p k (Some a ∷ os) = ap (λ b. b || any p os) (k a) ∙ any-false p k os
+
+still : (l : Lane) → happens l (BurnEnd false false) ≡ l
+still l = cond-both (is-live (l .stage)) (on-live l (BurnEnd false false)) l (λ x. x ≡ l) (λ _. refl) (λ _. refl)
+
+pub not-aged : (t : ℕ) (es : List (Option Lease)) (l : Lane) → may-end t (l .order .timing) ≡ false → aged t es l ≡ l
+not-aged t es l none =
+    let o : Timing = l .order .timing in
+    let free = any-false (holds-up t l) (λ e. and-third (eqb (e .head) (l .order .head)) (eqb (e .admitted) (l .admitted)) _ (multiple (o .start) (o .period) t (e .index + 1) none)) es in
+    let more = multiple (o .start) (o .period) t (o .count) none in
+    (λ i. happens l (BurnEnd (free i) (more i))) ∙ still l
+
+pub period-some : (l : Lane) → live-ok l ≡ true → 1 ≤ l .order .timing .period
+period-some l e = grind (arith, tells)

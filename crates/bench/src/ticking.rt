@@ -1,16 +1,18 @@
 // One slot of a bench: the read of the earliest deadline, and the burns that end.
 ghost use mathlib.Core.Path.{_≡_};
 ghost use mathlib.Core.Bool.{true, false};
-ghost use Prim.Native.Nat.{_<_};
+ghost use mathlib.Core.List.{[]};
+ghost use Prim.Native.Nat.{_<_, _≤_};
 ghost use lib.ListN.{length};
 ghost use Rattle.std.specs.Options.{Cases as BySome};
 ghost use Rattle.queue.specs.Held.{held, room};
 ghost use Rattle.std.specs.declared.option.Option.the-variants.{Some};
 ghost use Rattle.history.specs.Bench.{any, some-and, lane-in, lane-at};
 ghost use Rattle.history.specs.Calls.{answered, ticked, tick, served, due, choice, next-block, holds-up, changed, aged, all-aged};
+ghost use Rattle.history.specs.Requests.{Requested};
 ghost use Rattle.bench.specs.Model.{world};
 ghost use Rattle.bench.specs.Sound.{every, lane-ok, live-ok};
-ghost use Rattle.bench.specs.Ticks.{RequestOf, Offered, chosen-by, fault-in, fault-told, failures-in, Fault-at, Told-from, Attempted};
+ghost use Rattle.bench.specs.Ticks.{deadline-of, head-of, RequestOf, Offered, chosen-by, may-end, fault-in, fault-told, failures-in, Fault-at, Told-from, Attempted};
 use crate::lane::step;
 use crate::state::Bench;
 use disk::Disk;
@@ -24,6 +26,7 @@ use queue::request::ReadRequest;
 use queue::request::ReadRequestOrdered;
 use queue::request::ReadRequestTotal;
 use refusal::Refusal;
+use schedule::Timing;
 
 impl<D: Disk> Bench<D> {
     // One slot: at most one read, and then the burns that end.
@@ -48,9 +51,7 @@ impl<D: Disk> Bench<D> {
             Some(request) => Ok(self.serve(request.head as u32, pool)),
         }
     }
-}
 
-impl<D: Disk> Bench<D> {
     // A slot with a read for the lane of a head, which is due.
     fn serve(&mut self, head: u32, pool: &mut [u8]) -> Ticked
         requires { ⌜ head < 8 ⌝ ∗ ⌜ due (now self .now) (lane-at (now self .lanes) head) ≡ true ⌝ ∗ ⌜ length (now pool) ≡ 2048 ⌝ ∗ ⌜ now self .now < 1000000 ⌝ }
@@ -58,11 +59,10 @@ impl<D: Disk> Bench<D> {
         ensures bench { λ r. ⌜ world (D·Disk .meaning) (now (pool .exit)) (now (self .exit)) ≡ served (world (D·Disk .meaning) (now (pool .entry)) (now (self .entry))) (fault-in r) (Some (head, 0)) .0 ⌝ }
         ensures origin { λ r. ⌜ Fault-at head (D·Disk .faults (now (self .entry) .disk) (next-block (lane-at (now (self .entry) .lanes) head))) r ⌝ }
     {
-        let slot = self.lanes[head as usize];
-        let Some(found) = slot else { unreachable() };
-        let mut lane = found;
-        let told = attempt(&mut self.disk, &mut lane, head, pool);
-        self.lanes[head as usize] = Some(lane);
+        let Some(lane) = &mut self.lanes[head as usize] else {
+            unreachable()
+        };
+        let told = attempt(&mut self.disk, lane, head, pool);
         self.attempts += 1;
         self.failures += failures_in(&told);
         self.now += 1;
@@ -115,6 +115,10 @@ fn choose(slot: u32, lanes: &[Option<Lane>]) -> Option<ReadRequest>
     requires { ⌜ length (now lanes) ≡ 8 ⌝ ∗ ⌜ every lane-ok (now lanes) ≡ true ⌝ }
     ensures { λ r. ⌜ chosen-by r ≡ choice slot (now (lanes .entry)) ⌝ }
 {
+    let first = first_due(slot, lanes);
+    if first == lanes.len() {
+        return None;
+    }
     let none = ReadRequest {
         deadline: 0,
         head: 0,
@@ -122,10 +126,24 @@ fn choose(slot: u32, lanes: &[Option<Lane>]) -> Option<ReadRequest>
     };
     let mut memory = [none; 8];
     let mut queue = Queue::new(&mut memory);
-    for head in 0..lanes.len() {
+    for head in first..lanes.len() {
         offer(&mut queue, slot, head as u8, &lanes[head]);
     }
     queue.first()
+}
+
+// The first head whose lane is due, or how many there are: an idle slot needs no queue.
+fn first_due(slot: u32, lanes: &[Option<Lane>]) -> usize
+    requires { ⌜ length (now lanes) ≡ 8 ⌝ ∗ ⌜ every lane-ok (now lanes) ≡ true ⌝ }
+    ensures within { λ r. ⌜ r ≤ length (now (lanes .entry)) ⌝ }
+    ensures before { λ r. ⌜ Requested deadline-of head-of slot (now (lanes .entry)) r [] ⌝ }
+{
+    for head in 0..lanes.len() {
+        if let Some(_) = request(slot, head as u8, &lanes[head]) {
+            return head;
+        }
+    }
+    lanes.len()
 }
 
 // Puts the request of a head's lane, if it is due.
@@ -184,9 +202,24 @@ fn age(slot: u32, leases: &[Option<Lease>], lane: &mut Option<Lane>)
     let Stage::Live = lane.stage else {
         return;
     };
+    if !may_end(slot, &lane.order.timing) {
+        return;
+    }
     let held = is_held(slot, lane, leases);
     let last = lane.order.timing.deadline(lane.order.timing.count) == slot as u64;
     step(lane, Event::BurnEnd { held, last });
+}
+
+// Whether `slot` is a whole number of periods after the start. A burn ends at no other slot, so that most slots pass
+// without a look at the leases.
+fn may_end(slot: u32, timing: &Timing) -> bool
+    requires { ⌜ 1 ≤ now timing .period ⌝ }
+    ensures { λ r. ⌜ r ≡ may-end slot (now (timing .entry)) ⌝ }
+{
+    if slot < timing.start {
+        return false;
+    }
+    (slot - timing.start) % timing.period == 0
 }
 
 // Whether a lease taken in this lane is out on a block whose burn ends at `slot`.

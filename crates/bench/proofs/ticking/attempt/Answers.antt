@@ -27,7 +27,7 @@ returns-in-Ok g c =
     let l = c .args .lane .now in
     let p = buffer-small l (l .next) (c .pre .0) in
     let x = 64 * buffer-of l (l .next) in
-    record { outcome = read-granted _ l (c .args .head) (c .args .pool .now) (omega arith) (x + 64 - x) _ _ _ (omega arith) (c .step .ensures) (c .in-Ok .ensures tt .outcome); origin = tt }
+    record { outcome = read-granted (g .D·Disk .meaning (c .args .disk .now)) l (c .args .head) (c .args .pool .now) (omega arith) (x + 64 - x) (c .read .last .memory) (g .D·Disk .meaning (c .read .last .self)) (c .step .last .lane) (omega arith) (c .step .ensures) (c .in-Ok .ensures tt .outcome); origin = tt }
 
 pub returns-in-Faulted : need.returns-in-Faulted
 returns-in-Faulted g c =

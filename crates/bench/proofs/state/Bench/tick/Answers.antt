@@ -1,11 +1,11 @@
-use mathlib.Core.Path.{_≡_, sym, ap, _∙_}
+use mathlib.Core.Path.{_∙_}
 use Prim.Native.Nat.{_+_}
 use native.Mathlib.Omega.{arith}
 use Rattle.std.proofs.shelf.Ways.{tells}
-use Rattle.history.specs.Calls.{tick, served}
+use Rattle.history.specs.Calls.{tick}
 use Rattle.bench.specs.Model.{world}
 use Rattle.bench.specs.Ticks.{no-fault, fault-in}
-use Rattle.bench.proofs.Ticks.{chosen-due, all-aged-ok, tick-served, passed-is, told-from}
+use Rattle.bench.proofs.Ticks.{chosen-due, all-aged-ok, tick-idle, tick-chosen, passed-is, told-from}
 use Rattle.bench.proofs.state.Bench.tick.Needs as need
 
 pub returns-then-pool-ne2048 : need.returns-then-pool-ne2048
@@ -29,19 +29,17 @@ serve-requires g c κs =
 
 pub returns-in-None : need.returns-in-None
 returns-in-None g c =
-    let b = c .args .self .now in
-    let w = world (g .D·Disk .meaning) (c .args .pool .now) b in
-    let s = tick-served w no-fault (omega arith) (omega arith) ∙ ap (served w no-fault) (sym (c .in-None .ensures tt)) in
-    record { answer = sym (ap (λ x. x .1) s); bench = passed-is w _ (c .age-all .ensures) ∙ sym (ap (λ x. x .0) s); origin = tt }
+    let w = world (g .D·Disk .meaning) (c .args .pool .now) (c .args .self .now) in
+    let s = tick-idle w no-fault (omega arith) (omega arith) (c .in-None .ensures tt) in
+    record { answer = s .1; bench = passed-is w (c .age-all .last .lanes) (c .age-all .ensures) ∙ s .0; origin = tt }
 
 pub returns-in-Some : need.returns-in-Some
 returns-in-Some g c =
     let b = c .args .self .now in
-    let w = world (g .D·Disk .meaning) (c .args .pool .now) b in
-    let f = fault-in (c .serve .result) in
-    let s = tick-served w f (omega arith) (omega arith) ∙ ap (served w f) (sym (c .in-Some .ensures tt)) in
+    let told = c .serve .ensures in
+    let s = tick-chosen (world (g .D·Disk .meaning) (c .args .pool .now) b) (fault-in (c .serve .result)) (c .in-Some .request) (omega arith) (omega arith) (c .in-Some .ensures tt) in
     record {
-      answer = c .serve .ensures .answer ∙ sym (ap (λ x. x .1) s);
-      bench = c .serve .ensures .bench ∙ sym (ap (λ x. x .0) s);
-      origin = told-from (g .D·Disk .faults (b .disk)) (b .lanes) (c .in-Some .request .head) (c .serve .result) (c .serve .ensures .origin);
+      answer = told .answer ∙ s .1;
+      bench = told .bench ∙ s .0;
+      origin = told-from (g .D·Disk .faults (b .disk)) (b .lanes) (c .in-Some .request .head) (c .serve .result) (told .origin);
     }
