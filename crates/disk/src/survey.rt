@@ -3,7 +3,8 @@ ghost use mathlib.Core.Path.{_≡_};
 ghost use Prim.Native.Nat.{_<_};
 ghost use lib.ListN.{length, set};
 ghost use Rattle.std.specs.Of.Vec.{vec-items};
-ghost use Rattle.std.specs.Options.{isSome};
+ghost use Rattle.std.specs.Options.{isSome, Cases as BySome};
+ghost use Rattle.refusal.specs.declared.FaultKind.the-variants.{ReadFailed};
 ghost use Rattle.std.specs.Vec.{made};
 ghost use Rattle.disk.specs.Meaning.{block-at, worn, ReadsUseUpOneFailureEach};
 ghost use Rattle.disk.specs.Surveys.{fails-at, Surveyed};
@@ -22,7 +23,7 @@ pub struct Unread {
 
 // Reads each block once, by rising number: the blocks that did not read.
 pub fn survey<D: Disk>(heap: Global, disk: &mut D) -> Result<Vec<Unread>, AllocError>
-    ensures answer { λ r. ⌜ made r (λ v. Surveyed (D·Disk .meaning (now (disk .entry))) (vec-items v) (D·Disk .meaning (now (disk .exit)))) ⌝ }
+    ensures answer { λ r. ⌜ made r (λ v. Surveyed (λ b f. (t : D) × D·Disk .faults t b f) (D·Disk .meaning (now (disk .entry))) (vec-items v) (D·Disk .meaning (now (disk .exit)))) ⌝ }
     ensures law { λ _. ⌜ ReadsUseUpOneFailureEach ⌝ }
 {
     let mut unread = Vec::new(heap);
@@ -38,6 +39,7 @@ pub fn survey<D: Disk>(heap: Global, disk: &mut D) -> Result<Vec<Unread>, AllocE
 fn attempt<D: Disk>(disk: &mut D, block: usize) -> Option<Fault>
     requires { ⌜ block < length (D·Disk .meaning (now disk)) ⌝ }
     ensures answer { λ r. ⌜ isSome r ≡ fails-at (D·Disk .meaning (now (disk .entry))) block ⌝ }
+    ensures fault { λ r. ⌜ BySome r (Unit {0}) (λ f. D·Disk .faults (now (disk .entry)) block f × (f .kind ≡ ReadFailed)) ⌝ }
     ensures disk { λ _. ⌜ D·Disk .meaning (now (disk .exit)) ≡ set (D·Disk .meaning (now (disk .entry))) block (worn (block-at (D·Disk .meaning (now (disk .entry))) block)) ⌝ }
 {
     let mut memory = [0; 64];

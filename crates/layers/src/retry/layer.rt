@@ -2,8 +2,9 @@
 ghost use mathlib.Core.Path.{_≡_};
 ghost use lib.Dec.{ltb};
 ghost use lib.ListN.{length};
-ghost use Rattle.refusal.specs.Told.{refusal-number};
-ghost use Rattle.disk.specs.Origin.{Arose};
+ghost use Rattle.refusal.specs.Told.{refusal-number, answer-number};
+ghost use Rattle.disk.specs.Meaning.{Reads};
+ghost use Rattle.disk.specs.Origin.{Arose, Comes-from};
 ghost use Rattle.std.specs.Orderings.{When};
 ghost use Rattle.std.specs.Results.{Cases as ByOk};
 ghost use Rattle.layers.specs.Layers.{SameBytes};
@@ -57,7 +58,16 @@ pub impl<D: Disk> Disk for Retry<D> as RetryDisk {
                 return Ok(());
             }
         }
-        self.below.read(block, memory)?;
+        call(&mut self.below, block, memory)?;
         Ok(())
     }
+}
+
+// The last call below: its fault is passed on unaltered.
+fn call<D: Disk>(below: &mut D, block: usize, memory: &mut [u8]) -> Result<(), Refusal>
+    ensures outcome { λ r. ⌜ Reads (D·Disk .meaning (now (below .entry))) block (now (memory .entry)) (answer-number r) (now (memory .exit)) (D·Disk .meaning (now (below .exit))) ⌝ }
+    ensures origin { λ r. ⌜ Comes-from (D·Disk .faults (now (below .entry)) block) r ⌝ }
+{
+    below.read(block, memory)?;
+    Ok(())
 }

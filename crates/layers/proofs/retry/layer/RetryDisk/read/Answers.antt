@@ -37,18 +37,18 @@ loop-failed-again g c =
     let s = failed-more _ _ (omega (arith, fits .1)) _ _ _ _ _ (i .1) (fits .0) (number-err (c .read .result) (sym (c .if-is-ok .ensures tt .value))) (reads-at (i .0) (i .2) (c .read .ensures .outcome)) in
     (s .0, s .1, s .2, i .3)
 
-pub returns-in-Break-read : need.returns-in-Break-read
-returns-in-Break-read g c =
+pub returns-in-Break-call : need.returns-in-Break-call
+returns-in-Break-call g c =
     let fits = c .in-Continue-check-read .ensures tt .answer in
     let m = g .D·Disk .meaning (c .args .self .now .below) in
     let i = c .loop-failed .inv in
-    let p = err-from-errBy (c .from-residual-in-Break-read .result) (c .from-residual-in-Break-read .ensures .1) in
-    let r = reads-at (i .0) (i .2) (c .in-Break-read .ensures tt .outcome) in
-    record { outcome = rw (p .1, p .2, i .3) (retry-failed _ _ (omega (arith, fits .1)) (c .args .self .now .tries .count) _ _ _ _ _ (i .1) (omega arith) (refusal-above (c .in-Break-read .field-0 .0)) (fits .0) r); origin = rw (p .1, p .2) (comes-weaker (refusal-fault (c .in-Break-read .field-0 .0)) _ _ (λ f o. when-then _ _ _ (lt-ltb (c .args .block) (length m) (omega (arith, fits .1))) (c .loop-failed .self .below, o)) (c .in-Break-read .ensures tt .origin)) }
+    let p = err-from-errBy (c .from-residual-in-Break-call .result) (c .from-residual-in-Break-call .ensures .1) in
+    let r = reads-at (i .0) (i .2) (c .in-Break-call .ensures tt .outcome) in
+    record { outcome = rw (p .1, p .2, i .3) (retry-failed _ _ (omega (arith, fits .1)) (c .args .self .now .tries .count) _ _ _ _ _ (i .1) (omega arith) (refusal-above (c .in-Break-call .field-0 .0)) (fits .0) r); origin = rw (p .1, p .2) (comes-weaker (refusal-fault (c .in-Break-call .field-0 .0)) _ _ (λ f o. when-then _ _ _ (lt-ltb (c .args .block) (length m) (omega (arith, fits .1))) (c .loop-failed .self .below, o)) (c .in-Break-call .ensures tt .origin)) }
 
 pub returns : need.returns
 returns g c =
     let fits = c .in-Continue-check-read .ensures tt .answer in
     let i = c .loop-failed .inv in
-    let r = reads-at (i .0) (i .2) (c .in-Continue-read .ensures tt .outcome) in
+    let r = reads-at (i .0) (i .2) (c .in-Continue-call .ensures tt .outcome) in
     record { outcome = rw (i .3) (retry-granted _ _ (omega (arith, fits .1)) (c .args .self .now .tries .count) _ _ _ _ (i .1) (omega arith) (fits .0) r); origin = tt }
