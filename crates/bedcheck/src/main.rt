@@ -1,4 +1,6 @@
 // Surveys bed.img in the current folder under the plan of a cue list on standard input: which blocks will not come?
+#![tactic(auto)]
+
 use cuelists::due::Due;
 use cuelists::list::{ListFault, MOST_CALLS, read_list};
 use cues::Call;

@@ -1,4 +1,6 @@
 // Makes bed.img in the current folder from raw rows on standard input: 64 bytes a row, the last filled with zeros.
+#![tactic(auto)]
+
 use image::bed::bed;
 use std::fs;
 use std::io::Read;

@@ -1,4 +1,6 @@
 // The bench: eight heads that burn blocks from one disk, through buffers of a pool that is lent to it.
+#![tactic(auto)]
+
 mod admission;
 mod giving;
 mod lane;

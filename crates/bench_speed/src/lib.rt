@@ -1,5 +1,7 @@
 // A bench under a C name, so that a program in another language can be held against it: it plays a list of calls, each
 // of eight numbers, on a new bench, and answers each by one number.
+#![tactic(auto)]
+
 ghost use Prim.Native.Nat.{◌≤◌};
 ghost use lib.ListN.{length};
 

@@ -1,4 +1,6 @@
 // Trials of a bench: the story of a preview that closes while a head burns, as a list of calls; and slips.
+#![tactic(auto)]
+
 use anyhow::anyhow;
 use bench::performing::{Answer, Call, perform};
 use bench::{Bench, Order};

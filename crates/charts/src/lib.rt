@@ -1,4 +1,6 @@
 // A job's log as a picture: each line read back, and the chart of its lines as an SVG.
+#![tactic(auto)]
+
 mod axis;
 mod bands;
 pub mod chart;

@@ -1,5 +1,7 @@
 // Checks a cue list before a job: reads it from standard input and prints the number, line and place of its first
 // fault, or its calls in the order in which they would run, a line each, and how many they are.
+#![tactic(auto)]
+
 use cuelists::check::check_list;
 use std::io::Read;
 

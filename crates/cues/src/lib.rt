@@ -1,4 +1,6 @@
 // Cues: what an operator asks of a bench ahead of time, one to a line of a cue list.
+#![tactic(auto)]
+
 pub mod reading;
 pub mod text;
 pub mod token;

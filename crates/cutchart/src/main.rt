@@ -1,5 +1,7 @@
 // Shows a job to the service engineer: reads its log from standard input and writes its chart, an SVG, to standard
 // output; or, where a line is no line of a log, number, line and place of the first wrong word.
+#![tactic(auto)]
+
 use charts::chart::chart_log;
 use std::io::Read;
 

@@ -1,4 +1,6 @@
 // Runs a cue list from standard input over the bed image in bed.img of the current folder, and prints the log.
+#![tactic(auto)]
+
 use jobs::run;
 use std::fs;
 use std::io::{Read, Write};

@@ -1,4 +1,6 @@
 // What a disk is to all that reads it: blocks of 64 bytes, each of which may have failures to come.
+#![tactic(auto)]
+
 ghost use Rattle.std.specs.Prelude.{◌≡◌, ℕ, ◌<◌, List, length, MatchResult};
 ghost use Rattle.refusal.specs.Told.{answer_number};
 ghost use Rattle.refusal.specs.declared.Fault.{Fault};

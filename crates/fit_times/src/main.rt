@@ -1,5 +1,7 @@
 // Times `schedule::overfull` over eight lanes of 4,096 blocks. What it answers goes to standard output, and
 // how long it took, which differs from run to run, to standard error.
+#![tactic(auto)]
+
 use schedule::{Timing, Work, overfull};
 use std::io;
 use std::time::Instant;

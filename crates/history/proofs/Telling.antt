@@ -1,10 +1,11 @@
 -- What a history tells of a bench is what the bench holds, and its tallies count what the ticks answered.
-use Rattle.std.proofs.Common.{◌≡◌, ℕ, ◌+◌, Bool, true, false, cond, eqb, List, [], ◌∷◌, Some, None, Option, sym, refl, ap, ◌∙◌, arith}
+use Rattle.std.proofs.Common.{◌≡◌, ℕ, suc, ◌+◌, Bool, true, false, cond, eqb, List, [], ◌∷◌, Some, None, Option, sym, refl, ap, ◌∙◌, arith}
 use Rattle.std.proofs.lemmas.Bool.{cond_both}
 use Rattle.refusal.specs.declared.Fault.{Fault}
 use Rattle.disk.specs.Meaning.{Block, read_number}
 use Rattle.history.specs.Bench.{World, lane_at}
-use Rattle.history.specs.Calls.{Answer, refused, new, passed, choice, served, next_block, vacant, taken, lease_told}
+use Rattle.history.specs.declared.Ticked.TheVariants.{Read, Failed}
+use Rattle.history.specs.Calls.{Answer, refused, ticked, new, passed, read_done, read_failed, choice, served, next_block, vacant, taken, lease_told}
 use Rattle.history.specs.Told.{Call, admits, ticks, takes, gives, gives_slip, closes, call, after, answers, Told, nothing, tell_tick, tell, tell_all, told, tally, attempt_made, attempt_failed, of_tick}
 use Rattle.history.specs.Laws.{TalliesCountTicks}
 use Rattle.history.proofs.Checks.{Grants, call_cases}
@@ -21,7 +22,9 @@ module _ (w : World) where
   served_told : (f : Fault) (c : Option (ℕ × ℕ)) → Tells w (ticks f) (served w f c)
   served_told f None = refl
   served_told f (Some c) =
-      cond_both (eqb (read_number w.disk (next_block (lane_at w.lanes c.0)) 64) 0) _ _ (λ (r : World × Answer). view (passed r.0) ≡ tell_tick (view w) r.1) (λ _. refl) (λ _. refl)
+      let h = c.0 in
+      let l = lane_at w.lanes h in
+      cond_both (eqb (read_number w.disk (next_block l) 64) 0) (read_done w h l, ticked (Read h l.next)) (read_failed w h l f, ticked (Failed h l.next (suc l.failed) f)) (λ (r : World × Answer). view (passed r.0) ≡ tell_tick (view w) r.1) (λ _. refl) (λ _. refl)
 
   taken_told : (h i party : ℕ) (slip : Bool) → Tells w (takes h i party slip) (taken w h i party slip, lease_told w.number (vacant w.leases) party slip)
   taken_told h i party true = refl

@@ -1,5 +1,7 @@
 // The theory of a bench: what each of its calls does, what a history of calls tells, and what holds after every
 // history. The bench itself, in a crate above, keeps these types and is proved to do what the definitions here say.
+#![tactic(auto)]
+
 ghost use Rattle.std.specs.Prelude.{ℕ, List};
 ghost use Rattle.disk.specs.Meaning.{Block};
 ghost use Rattle.history.specs.Bench.{Valid};

@@ -1,4 +1,6 @@
 // A bed image: a drawing's rows as records of 70 bytes, each with a check, and the disk that they are.
+#![tactic(auto)]
+
 ghost use Rattle.std.specs.Prelude.{◌≡◌, length, MatchResult};
 ghost use Rattle.refusal.specs.Told.{refusal_number};
 ghost use Rattle.disk.specs.Meaning.{Proper};

@@ -1,4 +1,6 @@
 // Whole jobs, each a cue list over one bed image, run and held against the log that it should give.
+#![tactic(auto)]
+
 use jobs::run;
 use std::fs;
 

@@ -1,4 +1,6 @@
 // A whole job: a cue list run over a plan over a bed image, and the log that it comes to.
+#![tactic(auto)]
+
 ghost use Rattle.std.specs.Prelude.{◌≡◌, ℕ, [], IfOk, Some};
 ghost use Rattle.std.specs.Option.{option_map};
 ghost use Rattle.refusal.specs.declared.Fault.{Fault};

@@ -1,4 +1,6 @@
 // The log of a job: each kind of line as a value, and its text written into the caller's memory.
+#![tactic(auto)]
+
 ghost use Rattle.std.specs.Prelude.{◌≡◌, ◌+◌, ◌*◌, ◌<◌, ◌≤◌, [], ◌∷◌, ◌++◌, length, IfOk, if◌then◌else◌, decimal, MatchResult, nat_lt};
 ghost use Rattle.refusal.specs.Told.{answer_number};
 ghost use Rattle.loglines.specs.Memory.{put, Wrote};

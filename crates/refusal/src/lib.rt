@@ -1,5 +1,7 @@
 // Why a call of this repository was refused: one enum for every public call, and the number by which operators know
 // each case.
+#![tactic(auto)]
+
 ghost use Rattle.std.specs.Prelude.{◌≡◌, ◌≤◌};
 ghost use Rattle.refusal.specs.Told.{kind_number, refusal_number, told};
 

@@ -1,5 +1,7 @@
 // When orders fit: what is left of up to eight lanes is charged attempts with windows of slots, and an order fits
 // exactly when each of them can have a slot of its own. It knows nothing of benches, disks or leases.
+#![tactic(auto)]
+
 ghost use Rattle.std.specs.Prelude.{◌≡◌, ◌≤◌, length, Decides};
 ghost use Rattle.schedule.specs.Answers.{BoundsExactlyOutsideLimits, FirstOverfullOrNone, NoneExactlyWhenAssigned};
 ghost use Rattle.schedule.specs.Choice.{OneChoice};

@@ -1,4 +1,6 @@
 // What `schedule::overfull` answers, under a C name, so that a program in another language can be held against it.
+#![tactic(auto)]
+
 ghost use Rattle.std.specs.Prelude.{◌≡◌};
 ghost use Rattle.schedule.specs.Answers.{BoundsExactlyOutsideLimits, FirstOverfullOrNone, NoneExactlyWhenAssigned};
 ghost use Rattle.schedule.specs.Orders.{charged};

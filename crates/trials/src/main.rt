@@ -1,5 +1,7 @@
 // Worked examples: the sum against the numbers that RFC 1071 prints in its section of numerical examples, and reads of
 // a pile of layers, answer by answer.
+#![tactic(auto)]
+
 ghost use Rattle.trials.specs.Examples.{ExamplesHold};
 
 use anyhow::anyhow;

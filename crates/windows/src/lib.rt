@@ -1,5 +1,7 @@
 // Attempts with windows of slots: when each can have a slot of its own, and why the deadline-driven rule finds out.
 // Definitions and laws alone; the crate `schedule` decides by them.
+#![tactic(auto)]
+
 ghost use Rattle.windows.specs.Lanes.{EarliestBlockIsTheRule, LanesFitExactlyWhenAssigned};
 ghost use Rattle.windows.specs.Windows.{RuleKeepsOverfullEnds, NoneOverfullNoEndHasCome, NoneOverfullExactlyWhenAssigned, FirstMissIsLeastOverfullEnd, TryingDecides};
 

@@ -8,4 +8,4 @@ pub returns-in-Ok : goal.returns-in-Ok
 returns-in-Ok c =
     let zero = wrote_two c.args.out.now c.args.at 32 48 (omega arith) in
     let digit = ap (λ (ds : List ℕ). (32 ∷ ds) ++ spaced (c.in-Ok.lease ∷ [])) (sym (decimal_digit 0 (lit< tt))) in
-    record { wrote = wrote_same (digit ∙ ap (λ a. spaced (take_told a)) (sym c.in-Ok.is)) (wrote_then (omega arith) zero c.write-numbers.ensures.wrote); short = omega arith }
+    record { wrote = wrote_same (digit ∙ ap (λ a. spaced (take_told a)) (sym c.in-Ok.is)) (wrote_then (omega arith) zero c.write_numbers.ensures.wrote); short = omega arith }

@@ -5,15 +5,15 @@ use Rattle.schedule.proofs.Padding.{pad_sound}
 use Rattle.schedule.proofs.Telling.{none_told, none_assigned, some_told, some_unassigned}
 use Rattle.schedule.proofs.overfull.Goals as goal
 
-pub first-end-requires : goal.first-end-requires
-first-end-requires c =
+pub first_end-requires : goal.first_end-requires
+first_end-requires c =
     let r = c.in-Some.ensures in
     (omega arith, pad_sound (map rest c.args.work.now) _ _ r.1 (sound_rests c.args.work.now r.0))
 
-pub last-start-requires : goal.last-start-requires
-last-start-requires c =
+pub last_start-requires : goal.last_start-requires
+last_start-requires c =
     let r = c.in-Some.ensures in
-    let e = c.in-Some-first-end.ensures in
+    let e = c.in-Some-first_end.ensures in
     (pad_sound (map rest c.args.work.now) _ _ r.1 (sound_rests c.args.work.now r.0), (e.0, e.1))
 
 pub returns-in-None : goal.returns-in-None
@@ -25,12 +25,12 @@ returns-in-None c =
       assigned = none_assigned c.args.slot c.args.work.now r.0 c.in-Some.lanes _ r.1 c.in-None.ensures;
     }
 
-pub returns-in-Some-first-end : goal.returns-in-Some-first-end
-returns-in-Some-first-end c =
+pub returns-in-Some-first_end : goal.returns-in-Some-first_end
+returns-in-Some-first_end c =
     let r = c.in-Some.ensures in
-    let e = c.in-Some-first-end.ensures in
+    let e = c.in-Some-first_end.ensures in
     record {
       bounds = record { slot = omega arith; eight = omega arith; proper = r.0 };
-      span = some_told c.args.slot c.args.work.now r.0 c.in-Some.lanes _ r.1 _ _ e.2 c.last-start.ensures;
-      assigned = some_unassigned c.args.slot c.args.work.now r.0 c.in-Some.lanes _ r.1 _ _ e.2 c.last-start.ensures;
+      span = some_told c.args.slot c.args.work.now r.0 c.in-Some.lanes _ r.1 _ _ e.2 c.last_start.ensures;
+      assigned = some_unassigned c.args.slot c.args.work.now r.0 c.in-Some.lanes _ r.1 _ _ e.2 c.last_start.ensures;
     }

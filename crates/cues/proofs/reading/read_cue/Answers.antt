@@ -16,13 +16,13 @@ returns-else-begun c =
     ∙ sym (form_letter _ _ c.in-Ok.token _ c.in-Letter.letter told.next (ap token_says c.in-Letter.is))
     ∙ ap (λ (b : Bool). line_cue b c.args.line.now) (sym c.if-begun.false)
 
-pub returns-else-value-gt-LAST-SLOT : goal.returns-else-value-gt-LAST-SLOT
-returns-else-value-gt-LAST-SLOT c =
+pub returns-else-value-gt-LAST_SLOT : goal.returns-else-value-gt-LAST_SLOT
+returns-else-value-gt-LAST_SLOT c =
     let told = c.in-Ok.ensures in
     let after = c.next.new.self in
     let ends : end after ≡ length c.args.line.now = ap (λ r. length r.now) told.line in
     c.call.ensures ∙ (λ j. after_slot (ends j) c.in-Number.value (left after))
-    ∙ sym (form_slot _ _ c.in-Ok.token c.args.begun _ c.in-Number.value told.next (ap token_says c.in-Number.is) c.if-value-gt-LAST-SLOT.false)
+    ∙ sym (form_slot _ _ c.in-Ok.token c.args.begun _ c.in-Number.value told.next (ap token_says c.in-Number.is) c.if-value-gt-LAST_SLOT.false)
 
 pub returns-then-begun : goal.returns-then-begun
 returns-then-begun c =

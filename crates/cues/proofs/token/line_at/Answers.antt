@@ -8,4 +8,4 @@ pub returns-then-from-input : goal.returns-then-from-input
 returns-then-from-input c = sym (ap (front 10) (drop_all c.args.from c.args.input.now (omega arith)))
 
 pub returns : goal.returns
-returns c = word_between 10 c.args.input.now c.args.from c.end-of-end.result c.end-of-end.ensures.value
+returns c = word_between 10 c.args.input.now c.args.from c.end_of-end.result c.end_of-end.ensures.value

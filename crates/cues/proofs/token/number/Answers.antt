@@ -6,29 +6,29 @@ use Rattle.cues.specs.Words.{number_value}
 use Rattle.cues.proofs.Words.{digits_from, digit_range, number_true, number_false}
 use Rattle.cues.proofs.token.number.Goals as goal
 
-pub overflow-mul-n : goal.overflow-mul-n
-overflow-mul-n c =
+pub overflow_mul-n : goal.overflow_mul-n
+overflow_mul-n c =
     let p : 10 ^ c.loop-digit.digit-index ≤ 10 ^ 6 = pow-le-pow_right (lit< tt) {j = 6} (omega arith) in
     Fits-below {n = 99999999} tt (omega (arith, p))
 
-pub overflow-add-n : goal.overflow-add-n
-overflow-add-n c =
+pub overflow_add-n : goal.overflow_add-n
+overflow_add-n c =
     let p : 10 ^ c.loop-digit.digit-index ≤ 10 ^ 6 = pow-le-pow_right (lit< tt) {j = 6} (omega arith) in
     Fits-below {n = 99999999} tt (omega (arith, p))
 
-pub returns-then-not-is-ascii-digit : goal.returns-then-not-is-ascii-digit
-returns-then-not-is-ascii-digit c = number_false c.args.word.now c.loop-digit.digit-index c.loop-digit-test.true (sym c.if-not-is-ascii-digit.ensures.value)
+pub returns-then-not-is_ascii_digit : goal.returns-then-not-is_ascii_digit
+returns-then-not-is_ascii_digit c = number_false c.args.word.now c.loop-digit.digit-index c.loop-digit-test.true (sym c.if-not-is_ascii_digit.ensures.value)
 
 pub loop-digit-preserved : goal.loop-digit-preserved
 loop-digit-preserved c =
     let l = c.loop-digit in
     let w = c.args.word.now in
     let i = l.digit-index in
-    let d = digit_range (get_or w i 0) (sym c.if-not-is-ascii-digit.ensures.value) in
+    let d = digit_range (get_or w i 0) (sym c.if-not-is_ascii_digit.ensures.value) in
     let p : 10 ^ (i + 1) ≡ 10 ^ i * 10 = ap (λ k. 10 ^ k) (add-one i) ∙ pow-suc 10 i in (
       ap (λ m. m * 10 + (get_or w i 0 - 48)) l.invariant.0 ∙ sym (fold_more (λ n d. n * 10 + (d - 48)) 0 w i 0 c.loop-digit-test.true),
       omega (arith, p, l.invariant.1),
-      below_more _ _ l.invariant.2 (sym c.if-not-is-ascii-digit.ensures.value),
+      below_more _ _ l.invariant.2 (sym c.if-not-is_ascii_digit.ensures.value),
     )
 
 pub returns : goal.returns

@@ -7,12 +7,12 @@ use Rattle.cues.proofs.token.token_at.Goals as goal
 
 pub returns-in-Some : goal.returns-in-Some
 returns-in-Some c =
-    let word = word_between 32 c.args.line.now c.args.from c.end-of-end.result c.end-of-end.ensures.value in
+    let word = word_between 32 c.args.line.now c.args.from c.end_of-end.result c.end_of-end.ensures.value in
     (omega arith, subst (λ (w : List ℕ). Tells c.args.from w c.in-Some.token) word c.in-Some.ensures)
 
 pub returns-in-None : goal.returns-in-None
 returns-in-None c =
-    let word = word_between 32 c.args.line.now c.args.from c.end-of-end.result c.end-of-end.ensures.value in
+    let word = word_between 32 c.args.line.now c.args.from c.end_of-end.result c.end_of-end.ensures.value in
     (refl, ap word_of (sym word) ∙ c.in-None.ensures)
 
 pub returns-then-from-line : goal.returns-then-from-line

@@ -9,6 +9,6 @@ returns c =
     let part = c.min-part.result in
     let n : at + part - at ≡ part = omega arith in
     let z : part - 0 ≡ part = omega arith in
-    ap (λ u. u ++ drop (part - 0) c.args.row.now) (c.copy-from-slice.ensures.after ∙ ap (λ k. take k (drop at xs)) n)
+    ap (λ u. u ++ drop (part - 0) c.args.row.now) (c.copy_from_slice.ensures.after ∙ ap (λ k. take k (drop at xs)) n)
     ∙ ap (λ u. take part (drop at xs) ++ drop (part - 0) u) c.requires.zeros ∙ ap (λ k. take part (drop at xs) ++ drop k (replicate 64 0)) z
     ∙ row_copied xs c.args.y part (omega arith)

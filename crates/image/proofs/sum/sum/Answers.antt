@@ -18,11 +18,11 @@ returns-then-bytes-eq1 c =
     let n : (length xs + 1) / 2 ≡ length xs / 2 + 1 = omega arith in
     let past = get_or_past xs (2 * (length xs / 2) + 1) 0 (omega arith) in
     let v : c.carry-total-then-bytes-eq1.result ≡ sum_of xs = grind (arith, nat_tests) in
-    record { value = v; bound = grind (arith, nat_tests); law = v ∙ sum_is xs (λ j. omega (arith, c.type-inv.bytes (2 * j), c.type-inv.bytes (2 * j + 1))) _ }
+    record { value = v; bound = grind (arith, nat_tests); law = v ∙ sum_is xs (λ j. omega (arith, c.type_inv.bytes (2 * j), c.type_inv.bytes (2 * j + 1))) _ }
 
 pub returns-else-bytes-eq1 : goal.returns-else-bytes-eq1
 returns-else-bytes-eq1 c =
     let xs = c.args.bytes.now in
     let n : (length xs + 1) / 2 ≡ length xs / 2 = omega arith in
     let v : c.loop-k.total ≡ sum_of xs = grind (arith, nat_tests) in
-    record { value = v; bound = omega arith; law = v ∙ sum_is xs (λ j. omega (arith, c.type-inv.bytes (2 * j), c.type-inv.bytes (2 * j + 1))) _ }
+    record { value = v; bound = omega arith; law = v ∙ sum_is xs (λ j. omega (arith, c.type_inv.bytes (2 * j), c.type_inv.bytes (2 * j + 1))) _ }

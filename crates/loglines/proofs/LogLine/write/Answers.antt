@@ -9,7 +9,7 @@ returns-then-out-lt-ROOM c = record { answer = grind (arith, nat_tests); value =
 
 pub returns : goal.returns
 returns c =
-    let end = c.write-text-end in
+    let end = c.write_text-end in
     let whole = wrote_then (omega arith) end.ensures.wrote (wrote_byte end.new.out end.result 10 (omega arith)) in
     record {
       answer = grind (arith, nat_tests);

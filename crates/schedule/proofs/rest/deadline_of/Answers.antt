@@ -2,8 +2,8 @@ use Rattle.std.proofs.Common.{arith}
 use Rattle.schedule.proofs.Times.{deadline_end}
 use Rattle.schedule.proofs.rest.deadline_of.Goals as goal
 
-pub overflow-mul-result : goal.overflow-mul-result
-overflow-mul-result c = omega (arith, deadline_end c.args.w.now c.requires.0 c.args.j (omega arith))
+pub overflow_mul-result : goal.overflow_mul-result
+overflow_mul-result c = omega (arith, deadline_end c.args.w.now c.requires.0 c.args.j (omega arith))
 
-pub overflow-add-result : goal.overflow-add-result
-overflow-add-result c = omega (arith, deadline_end c.args.w.now c.requires.0 c.args.j (omega arith))
+pub overflow_add-result : goal.overflow_add-result
+overflow_add-result c = omega (arith, deadline_end c.args.w.now c.requires.0 c.args.j (omega arith))

@@ -4,8 +4,8 @@ use Rattle.schedule.specs.Scan.{CutAt}
 use Rattle.schedule.proofs.Cutting.{cut_at}
 use Rattle.schedule.proofs.scan.cut_one.Goals as goal
 
-pub overflow-add-h : goal.overflow-add-h
-overflow-add-h c = omega (arith, div-le_self (c.args.h - c.args.w.now.start) c.args.w.now.period)
+pub overflow_add-h : goal.overflow_add-h
+overflow_add-h c = omega (arith, div-le_self (c.args.h - c.args.w.now.start) c.args.w.now.period)
 
 pub returns : goal.returns
 returns c =
