@@ -24,13 +24,13 @@ pub struct Bench<D> {
     // Read calls made, and those that failed: at most one a slot.
     pub(crate) attempts: u32,
     pub(crate) failures: u32,
-    ghost time: { (λ x. x.now) ≤ 1000000 },
-    ghost calls: { attempts ≤ (λ x. x.now) },
+    ghost time: { now ≤ 1000000 },
+    ghost calls: { attempts ≤ now },
     ghost failed: { failures ≤ attempts },
     ghost safe: { every lane_ok lanes ≡ true },
     ghost lent: { every lease_ok leases ≡ true },
     ghost resting: { every (rests quiet) lanes ≡ true },
-    ghost unheld: { all_later (λ x. x.now) lapse lanes leases ≡ true },
+    ghost unheld: { all_later now lapse lanes leases ≡ true },
     ghost sooner: { quiet ≤ lapse },
     ghost alive: { live ≡ running lanes },
 }

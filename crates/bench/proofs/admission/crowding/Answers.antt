@@ -10,12 +10,12 @@ use Rattle.bench.proofs.admission.crowding.Goals as goal
 pub returns : goal.returns
 returns c =
     subst (λ (ws : List Work). FirstOverfullOrNone (charged c.args.slot ws) (Ok c.in-Ok.span))
-    (part_is c.works-with-works.result.all (new_work c.args.slot c.args.asked.now ∷ works c.args.lanes.now) c.works-with-works.result.len c.works-with-works.ensures.value)
+    (part_is c.works_with-works.result.all (new_work c.args.slot c.args.asked.now ∷ works c.args.lanes.now) c.works_with-works.result.len c.works_with-works.ensures.value)
     c.in-Ok.ensures.span
 
 pub unreachable-requires : goal.unreachable-requires
 unreachable-requires c =
     c.in-Err.ensures.bounds.1
     (subst (λ (ws : List Work). Limits c.args.slot ws)
-    (sym (part_is c.works-with-works.result.all (new_work c.args.slot c.args.asked.now ∷ works c.args.lanes.now) c.works-with-works.result.len c.works-with-works.ensures.value))
+    (sym (part_is c.works_with-works.result.all (new_work c.args.slot c.args.asked.now ∷ works c.args.lanes.now) c.works_with-works.result.len c.works_with-works.ensures.value))
     (tried_within c.args.slot c.args.asked.now c.args.lanes.now c.requires))

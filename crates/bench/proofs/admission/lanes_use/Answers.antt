@@ -4,12 +4,12 @@ use Rattle.bench.specs.Admits.{lane_uses}
 use Rattle.bench.proofs.Admits.{any_more, any_end}
 use Rattle.bench.proofs.admission.lanes_use.Goals as goal
 
-pub returns-then-lane-uses : goal.returns-then-lane-uses
-returns-then-lane-uses c =
-    let s = any_more (lane_uses c.args.buffer) c.args.lanes.now c.loop-k.k (omega arith) in let u = c.if-lane-uses.ensures in record { value = grind (arith, nat_tests) }
+pub returns-then-lane_uses : goal.returns-then-lane_uses
+returns-then-lane_uses c =
+    let s = any_more (lane_uses c.args.buffer) c.args.lanes.now c.loop-k.k (omega arith) in let u = c.if-lane_uses.ensures in record { value = grind (arith, nat_tests) }
 
 pub loop-k-preserved : goal.loop-k-preserved
-loop-k-preserved c = let s = any_more (lane_uses c.args.buffer) c.args.lanes.now c.loop-k.k (omega arith) in let u = c.if-lane-uses.ensures in grind (arith, nat_tests)
+loop-k-preserved c = let s = any_more (lane_uses c.args.buffer) c.args.lanes.now c.loop-k.k (omega arith) in let u = c.if-lane_uses.ensures in grind (arith, nat_tests)
 
 pub returns : goal.returns
 returns c = let s = any_end (lane_uses c.args.buffer) c.args.lanes.now c.loop-k.k (omega arith) in record { value = grind (arith, nat_tests) }

@@ -11,9 +11,9 @@ use Rattle.bench.specs.declared.performing.Call.{Call}
 use Rattle.bench.proofs.Lists.{performs_more}
 use Rattle.bench.proofs.performing.perform.Goals as goal
 
-pub returns-in-err-push : goal.returns-in-err-push
-returns-in-err-push g c =
-    let p = err_from_is_err_and c.from-residual.result c.from-residual.ensures.1 in
+pub returns-in_err-push : goal.returns-in_err-push
+returns-in_err-push g c =
+    let p = err_from_is_err_and c.from_residual.result c.from_residual.ensures.1 in
     record { performs = rw p.1 tt; laws = bench_laws c.args.number (g.D.Disk.meaning c.args.disk) c.args.pool.now }
 
 pub loop-call-preserved : goal.loop-call-preserved
@@ -26,7 +26,7 @@ loop-call-preserved g c =
     let old : List Answer = vec_items c.loop-call.answers in
     let a : Answer = c.obey-answer.result in
     let first : take (k + 1) cs ≡ take k cs ++ item ∷ [] = take_more cs k item (omega arith) ∙ ap (λ x. take k cs ++ x ∷ []) (sym c.call-item.is) in
-    let items : vec_items c.push.new.self ≡ old ++ a ∷ [] = c.push.ensures.items ∙ ap (λ r. cond (is_ok r) (old ++ a ∷ []) old) c.in-ok-push.was in
+    let items : vec_items c.push.new.self ≡ old ++ a ∷ [] = c.push.ensures.items ∙ ap (λ r. cond (is_ok r) (old ++ a ∷ []) old) c.in_ok-push.was in
     subst (λ xs. Performs w xs (vec_items c.push.new.self) w'') (sym first)
     (subst (λ as'. Performs w (take k cs ++ item ∷ []) as' w'') (sym items)
     (performs_more w _ w'' (take k cs) old item a c.loop-call.invariant c.obey-answer.ensures))

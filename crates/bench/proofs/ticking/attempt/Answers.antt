@@ -5,8 +5,8 @@ use Rattle.history.specs.Bench.{buffer_of}
 use Rattle.bench.proofs.Ticks.{buffer_small, live_small, never_others, read_granted, read_refused}
 use Rattle.bench.proofs.ticking.attempt.Goals as goal
 
-pub slice-bounds-read-end : goal.slice-bounds-read-end
-slice-bounds-read-end g c = let p = buffer_small c.args.lane.now c.args.lane.now.next c.requires.0 in search rules
+pub slice_bounds-read-end : goal.slice_bounds-read-end
+slice_bounds-read-end g c = let p = buffer_small c.args.lane.now c.args.lane.now.next c.requires.0 in search rules
 
 pub step-requires-in-Faulted : goal.step-requires-in-Faulted
 step-requires-in-Faulted g c = live_small c.args.lane.now c.requires.0
@@ -16,7 +16,7 @@ unreachable-requires g c =
     let l = c.args.lane.now in
     let p = buffer_small l l.next c.requires.0 in
     let x = 64 * buffer_of l l.next in
-    never_others _ l c.args.head c.args.pool.now (omega arith) (x + 64 - x) c.in-Err.refusal (omega arith) c.in-default.not-Faulted c.in-Err.ensures.outcome.number
+    never_others _ l c.args.head c.args.pool.now (omega arith) (x + 64 - x) c.in-Err.refusal (omega arith) c.in_default.not-Faulted c.in-Err.ensures.outcome.number
 
 pub returns-in-Ok : goal.returns-in-Ok
 returns-in-Ok g c =

@@ -12,4 +12,4 @@ pub request-requires : goal.request-requires
 request-requires c = ok_at c.args.lanes.now c.loop-head.head _ c.requires.1 refl
 
 pub loop-head-preserved : goal.loop-head-preserved
-loop-head-preserved c = requested_past deadline_of head_of c.args.slot c.args.lanes.now c.loop-head.head [] c.in-default.ensures c.loop-head.invariant
+loop-head-preserved c = requested_past deadline_of head_of c.args.slot c.args.lanes.now c.loop-head.head [] c.in_default.ensures c.loop-head.invariant

@@ -10,16 +10,16 @@ use Rattle.bench.proofs.ticking.is_held.Goals as goal
 pub returns-then-slot-lapse : goal.returns-then-slot-lapse
 returns-then-slot-lapse c = sym (none_holds c.args.slot c.args.lapse c.args.slot c.args.lane.now c.args.leases.now (omega arith) (omega arith) c.requires.1.0 c.requires.1.1)
 
-pub returns-then-is-holding : goal.returns-then-is-holding
-returns-then-is-holding c =
+pub returns-then-is_holding : goal.returns-then-is_holding
+returns-then-is_holding c =
     let s = any_more (holds_up c.args.slot c.args.lane.now) c.args.leases.now c.loop-m.m (omega arith) in
-    let n = c.if-is-holding.ensures in
+    let n = c.if-is_holding.ensures in
     grind (arith, nat_tests)
 
 pub loop-m-preserved : goal.loop-m-preserved
 loop-m-preserved c =
     let s = any_more (holds_up c.args.slot c.args.lane.now) c.args.leases.now c.loop-m.m (omega arith) in
-    let n = c.if-is-holding.ensures in
+    let n = c.if-is_holding.ensures in
     grind (arith, nat_tests)
 
 pub returns : goal.returns

@@ -13,7 +13,7 @@ pub loop-head-preserved : goal.loop-head-preserved
 loop-head-preserved c =
     let ls = c.args.lanes.now in (
       simp length-set c.loop-head.invariant.0,
-      set_below (λ h. is_live (lane_at ls h).stage) false c.loop-head.live c.loop-head.head c.is-live.result (omega arith) (c.is-live.ensures ∙ some_live (get_or ls c.loop-head.head None)) c.loop-head.invariant.1,
+      set_below (λ h. is_live (lane_at ls h).stage) false c.loop-head.live c.loop-head.head c.is_live.result (omega arith) (c.is_live.ensures ∙ some_live (get_or ls c.loop-head.head None)) c.loop-head.invariant.1,
     )
 
 pub returns : goal.returns

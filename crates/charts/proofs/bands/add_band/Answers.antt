@@ -6,20 +6,20 @@ use Rattle.charts.specs.declared.bands.Span.{Span}
 use Rattle.charts.specs.declared.mark.Mark.{Mark}
 use Rattle.charts.proofs.Bars.{turn_other, turn_shown, end_none, end_some}
 use Rattle.charts.proofs.bands.add_band.Goals as goal
-use Rattle.charts.proofs.bands.add_band.Goals.{in-Some+in-ok-next, in-default}
+use Rattle.charts.proofs.bands.add_band.Goals.{in-Some+in_ok-next, in_default}
 
 pub loop-entry-preserved : goal.loop-entry-preserved
 loop-entry-preserved c =
     let l = c.loop-entry in
     let a = c.args in
     let lines : Option Span → List ℕ = λ o. bar_lines a.band a.head (bars (band_spans a.last a.band a.head (drop (l.entry-index + 1) a.entries.now)) o) in
-    elim c.match-slot-in.branch [
-      | in-Some+in-ok-next w ↦
+    elim c.match-slot_in.branch [
+      | in-Some+in_ok-next w ↦
           (λ i. string_bytes (w.text-is i) ++ lines (w.pending-is i))
-          ∙ turn_shown a.last a.band a.head a.entries.now l.entry-index l.pending (string_bytes l.text) _ l.invariant _ c.loop-entry-test.true w.in-Some.slot w.in-Some.ensures w.span-of-span.result w.in-ok-next.next (string_bytes w.add-span.new.text) w.span-of-span.ensures w.in-ok-next.ensures.0 w.in-ok-next.ensures.1
-      | in-default w ↦
+          ∙ turn_shown a.last a.band a.head a.entries.now l.entry-index l.pending (string_bytes l.text) _ l.invariant _ c.loop-entry-test.true w.in-Some.slot w.in-Some.ensures w.span_of-span.result w.in_ok-next.next (string_bytes w.add_span.new.text) w.span_of-span.ensures w.in_ok-next.ensures.0 w.in_ok-next.ensures.1
+      | in_default w ↦
           (λ i. string_bytes (w.text-is i) ++ lines (w.pending-is i))
-          ∙ turn_other a.last a.band a.head a.entries.now l.entry-index l.pending (string_bytes l.text) _ l.invariant _ c.loop-entry-test.true w.in-default.ensures
+          ∙ turn_other a.last a.band a.head a.entries.now l.entry-index l.pending (string_bytes l.text) _ l.invariant _ c.loop-entry-test.true w.in_default.ensures
     ]
 
 pub returns-in-Some-pending : goal.returns-in-Some-pending
@@ -27,7 +27,7 @@ returns-in-Some-pending c =
     let l = c.loop-entry in
     let a = c.args in
     let whole = end_some a.last a.band a.head a.entries.now l.entry-index l.pending (string_bytes l.text) _ l.invariant c.loop-entry-test.false c.in-Some-pending.span c.in-Some-pending.is in
-    IfOk-weaker c.add.result _ _ (λ x e. e ∙ ap (λ (m : Mark). string_bytes l.text ++ mark_line m) c.bar-of.ensures ∙ whole) c.add.ensures
+    IfOk-weaker c.add.result _ _ (λ x e. e ∙ ap (λ (m : Mark). string_bytes l.text ++ mark_line m) c.bar_of.ensures ∙ whole) c.add.ensures
 
 pub returns-in-None : goal.returns-in-None
 returns-in-None c =

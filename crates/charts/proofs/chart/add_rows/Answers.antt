@@ -18,5 +18,5 @@ loop-head-preserved c =
     let reads = band_lines a.last Reads l.head a.entries.now in
     let failures = band_lines a.last Failures l.head a.entries.now in
     let one_less : 8 - l.head ≡ suc (8 - (l.head + 1)) = omega arith in
-    let added = c.in-ok-add-band-2.ensures ∙ ap (λ (bs : List ℕ). bs ++ failures) c.in-ok-add-band.ensures in
+    let added = c.in_ok-add_band-2.ensures ∙ ap (λ (bs : List ℕ). bs ++ failures) c.in_ok-add_band.ensures in
     ap (λ (bs : List ℕ). bs ++ rest) added ∙ grouped text reads failures rest ∙ sym (ap (λ (n : ℕ). text ++ rows (range_with_len l.head n)) one_less) ∙ l.invariant

@@ -10,4 +10,4 @@ module _ {s t u v w x : List ℕ} (a b c d e : List ℕ) where
       k ∙ ap (λ (l : List ℕ). l ++ e) four ∙ grouped
 
 pub returns : goal.returns
-returns c = five_parts _ _ _ _ _ c.new-text.ensures.bytes c.in-ok-add-head.ensures c.in-ok-add-ticks.ensures c.in-ok-add-rows.ensures c.in-ok-add-marks.ensures c.in-ok-add-legend.ensures
+returns c = five_parts _ _ _ _ _ c.new-text.ensures.bytes c.in_ok-add_head.ensures c.in_ok-add_ticks.ensures c.in_ok-add_rows.ensures c.in_ok-add_marks.ensures c.in_ok-add_legend.ensures

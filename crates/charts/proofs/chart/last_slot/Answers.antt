@@ -11,7 +11,7 @@ latest_more es i m d h s n e f = ap (λ (k : ℕ). latest k (drop (i + 1) es)) (
 pub loop-entry-preserved : goal.loop-entry-preserved
 loop-entry-preserved c =
     let l = c.loop-entry in
-    latest_more c.args.entries.now l.entry-index l.last _ c.loop-entry-test.true c.slot-of.result c.max-last.result c.slot-of.ensures c.max-last.ensures ∙ l.invariant
+    latest_more c.args.entries.now l.entry-index l.last _ c.loop-entry-test.true c.slot_of.result c.max-last.result c.slot_of.ensures c.max-last.ensures ∙ l.invariant
 
 pub returns : goal.returns
 returns c = let l = c.loop-entry in sym (at_drop_all (latest l.last) c.args.entries.now l.entry-index c.loop-entry-test.false) ∙ l.invariant

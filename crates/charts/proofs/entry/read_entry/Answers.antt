@@ -2,8 +2,8 @@ use Rattle.std.proofs.Common.{rules}
 use Rattle.charts.proofs.Back.{written_lines_read_back}
 use Rattle.charts.proofs.entry.read_entry.Goals as goal
 
-pub returns-then-is-done : goal.returns-then-is-done
-returns-then-is-done c = record { value = search rules; back = written_lines_read_back }
+pub returns-then-is_done : goal.returns-then-is_done
+returns-then-is_done c = record { value = search rules; back = written_lines_read_back }
 
 pub returns-in-Err : goal.returns-in-Err
 returns-in-Err c = record { value = search rules; back = written_lines_read_back }

@@ -2,18 +2,18 @@ use Rattle.std.proofs.Common.{sym, ◌∙◌, arith}
 use Rattle.charts.proofs.Marked.{lease_ends, lease_lasts, lease_stays}
 use Rattle.charts.proofs.lines.lease_end.Goals as goal
 
-pub returns-then-ends-lease : goal.returns-then-ends-lease
-returns-then-ends-lease c =
+pub returns-then-ends_lease : goal.returns-then-ends_lease
+returns-then-ends_lease c =
     let l = c.loop-i in
     let a = c.args in
-    let ends = lease_ends a.last a.lease a.entries.now l.i _ c.loop-i-test.true c.if-ends-lease.ensures in
-    record { value = c.slot-of.ensures ∙ sym ends ∙ l.invariant; bound = omega arith }
+    let ends = lease_ends a.last a.lease a.entries.now l.i _ c.loop-i-test.true c.if-ends_lease.ensures in
+    record { value = c.slot_of.ensures ∙ sym ends ∙ l.invariant; bound = omega arith }
 
 pub loop-i-preserved : goal.loop-i-preserved
 loop-i-preserved c =
     let l = c.loop-i in
     let a = c.args in
-    sym (lease_lasts a.last a.lease a.entries.now l.i _ c.loop-i-test.true c.if-ends-lease.ensures) ∙ l.invariant
+    sym (lease_lasts a.last a.lease a.entries.now l.i _ c.loop-i-test.true c.if-ends_lease.ensures) ∙ l.invariant
 
 pub returns : goal.returns
 returns c =

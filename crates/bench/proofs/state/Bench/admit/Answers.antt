@@ -20,9 +20,9 @@ module _ {r : World × Answer} {w : World} {a : Answer} (e : r ≡ (w, a)) where
   said : a ≡ r.1
   said = sym (ap (λ (x : World × Answer). x.1) e)
 
-pub returns-in-default : goal.returns-in-default
-returns-in-default g c =
-    let e = λ (pool : List ℕ). admit_taken (world g.D.Disk.meaning pool c.args.self.now) c.args.order.asked c.in-default.field-0 c.in-default.is in
+pub returns-in_default : goal.returns-in_default
+returns-in_default g c =
+    let e = λ (pool : List ℕ). admit_taken (world g.D.Disk.meaning pool c.args.self.now) c.args.order.asked c.in_default.field-0 c.in_default.is in
     record { answer = λ pool. said (e pool); bench = λ pool. after (e pool) }
 
 pub returns-then-asked-self : goal.returns-then-asked-self
@@ -36,10 +36,10 @@ returns-then-asked-size g c =
     let e = λ (pool : List ℕ). admit_off_disk (world g.D.Disk.meaning pool c.args.self.now) c.args.order.asked c.in-None.is c.if-asked-self.false off in
     record { answer = λ pool. said (e pool); bench = λ pool. after (e pool) }
 
-pub returns-in-default-lowest : goal.returns-in-default-lowest
-returns-in-default-lowest g c =
+pub returns-in_default-lowest : goal.returns-in_default-lowest
+returns-in_default-lowest g c =
     let on : c.args.order.asked.first + c.args.order.asked.timing.count ≤ length (g.D.Disk.meaning c.args.self.now.disk) = omega arith in
-    let e = λ (pool : List ℕ). admit_pool_short (world g.D.Disk.meaning pool c.args.self.now) c.args.order.asked c.in-None.is c.if-asked-self.false on c.in-default-lowest.ensures in
+    let e = λ (pool : List ℕ). admit_pool_short (world g.D.Disk.meaning pool c.args.self.now) c.args.order.asked c.in-None.is c.if-asked-self.false on c.in_default-lowest.ensures in
     record { answer = λ pool. said (e pool); bench = λ pool. after (e pool) }
 
 pub crowding-crowded-requires : goal.crowding-crowded-requires
@@ -58,15 +58,15 @@ returns-in-Some-crowded g c =
     in
     record { answer = λ pool. said (e pool); bench = λ pool. after (e pool) }
 
-pub lane-lapse-own-requires : goal.lane-lapse-own-requires
-lane-lapse-own-requires g c =
+pub lane_lapse-own-requires : goal.lane_lapse-own-requires
+lane_lapse-own-requires g c =
     let b = c.args.self.now in
     let o = c.args.order in
     let lane = new_lane_is b.now _ o.asked c.in-Some.buffers c.in-Some.ensures.1 in
     subst (λ (l : Lane). lane_ok l ≡ true) (sym lane) (new_lane_ok b.lanes b.leases b.now o.asked o.limits c.if-asked-self.false)
 
-pub invariant-of-self-2 : goal.invariant-of-self-2
-invariant-of-self-2 g c =
+pub invariant_of-self-2 : goal.invariant_of-self-2
+invariant_of-self-2 g c =
     let b = c.args.self.now in
     let o = c.args.order in
     let l : Lane = record { order = o.asked; admitted = b.now; next = 0; failed = 0; stage = Live; buffers = c.in-Some.buffers } in
@@ -74,8 +74,18 @@ invariant-of-self-2 g c =
     let lane = new_lane_is b.now _ o.asked c.in-Some.buffers c.in-Some.ensures.1 in
     let ok : lane_ok l ≡ true = subst (λ (l : Lane). lane_ok l ≡ true) (sym lane) (new_lane_ok b.lanes b.leases b.now o.asked o.limits c.if-asked-self.false) in
     let in' : h < 8 = grind (arith, nat_tests) in
-    let apart = all_later_admit b.now b.lapse c.lane-lapse-own.result c.min-self.result b.lanes b.leases h l (omega arith) (omega arith) b.unheld c.lane-lapse-own.ensures in
-    (b.time, (b.calls, (b.failed, (every_set_some lane_ok b.lanes h l b.safe ok, (b.lent, (every_true (rests 0) rests_zero (set b.lanes h (Some l)), (apart, (omega arith, (sym (running_set b.lanes h l (omega arith) refl), tt)))))))))
+    let apart = all_later_admit b.now b.lapse c.lane_lapse-own.result c.min-self.result b.lanes b.leases h l (omega arith) (omega arith) b.unheld c.lane_lapse-own.ensures in
+    record {
+      time = b.time;
+      calls = b.calls;
+      failed = b.failed;
+      safe = every_set_some lane_ok b.lanes h l b.safe ok;
+      lent = b.lent;
+      resting = every_true (rests 0) rests_zero (set b.lanes h (Some l));
+      unheld = apart;
+      sooner = omega arith;
+      alive = sym (running_set b.lanes h l (omega arith) refl);
+    }
 
 pub returns : goal.returns
 returns g c =
@@ -83,7 +93,7 @@ returns g c =
     let o = c.args.order.asked in
     let on : o.first + o.timing.count ≤ length (g.D.Disk.meaning b.disk) = omega arith in
     let lane = new_lane_is b.now _ o c.in-Some.buffers c.in-Some.ensures.1 in
-    let e = λ (pool : List ℕ). admit_done (world g.D.Disk.meaning pool b) o c.in-None.is c.if-asked-self.false on c.in-Some.ensures.0 c.in-default-crowded.ensures in
+    let e = λ (pool : List ℕ). admit_done (world g.D.Disk.meaning pool b) o c.in-None.is c.if-asked-self.false on c.in-Some.ensures.0 c.in_default-crowded.ensures in
     record {
       answer = λ pool. said (e pool);
       bench = λ pool. ap (λ (l : Lane). with_lanes (world g.D.Disk.meaning pool b) (set b.lanes o.head (Some l))) lane ∙ after (e pool);

@@ -11,17 +11,27 @@ pub returns-then-head-gt7 : goal.returns-then-head-gt7
 unfolding close
 returns-then-head-gt7 g c = record { answer = λ pool. grind (arith, nat_tests); bench = λ pool. grind (arith, nat_tests) }
 
-pub returns-in-default : goal.returns-in-default
+pub returns-in_default : goal.returns-in_default
 unfolding close
-returns-in-default g c = record { answer = λ pool. grind (arith, nat_tests); bench = λ pool. grind (arith, nat_tests) }
+returns-in_default g c = record { answer = λ pool. grind (arith, nat_tests); bench = λ pool. grind (arith, nat_tests) }
 
 pub step-requires : goal.step-requires
 step-requires g c = let k = every_at lane_ok c.args.self.now.lanes c.args.head c.in-Some.found c.args.self.now.safe c.in-Some.is in (grind (arith, nat_tests), grind (arith, nat_tests))
 
-pub invariant-of-self : goal.invariant-of-self
-invariant-of-self g c =
+pub invariant_of-self : goal.invariant_of-self
+invariant_of-self g c =
     let b = c.args.self.now in
-    (b.time, (b.calls, (b.failed, (every_set_none lane_ok b.lanes c.args.head b.safe, (b.lent, (every_set_none (rests b.quiet) b.lanes c.args.head b.resting, (all_later_close b.now b.lapse b.lanes b.leases c.args.head b.unheld, (b.sooner, (c.any-live-self.ensures.value, tt)))))))))
+    record {
+      time = b.time;
+      calls = b.calls;
+      failed = b.failed;
+      safe = every_set_none lane_ok b.lanes c.args.head b.safe;
+      lent = b.lent;
+      resting = every_set_none (rests b.quiet) b.lanes c.args.head b.resting;
+      unheld = all_later_close b.now b.lapse b.lanes b.leases c.args.head b.unheld;
+      sooner = b.sooner;
+      alive = c.any_live-self.ensures.value;
+    }
 
 pub returns : goal.returns
 unfolding close

@@ -12,17 +12,27 @@ returns-then-party-gt3 g c =
     let e = c.then-party-gt3.either in
     record { answer = λ pool. sym (ap (λ r. r.1) (give_off_limits (world g.D.Disk.meaning pool c.args.self.now) c.args.party c.args.lease (grind (arith, nat_tests)))); bench = λ pool. sym (ap (λ r. r.0) (give_off_limits (world g.D.Disk.meaning pool c.args.self.now) c.args.party c.args.lease (grind (arith, nat_tests)))) }
 
-pub returns-then-not-is-out : goal.returns-then-not-is-out
-returns-then-not-is-out g c =
-    let out = c.if-not-is-out.ensures.value in
+pub returns-then-not-is_out : goal.returns-then-not-is_out
+returns-then-not-is_out g c =
+    let out = c.if-not-is_out.ensures.value in
     record { answer = λ pool. sym (ap (λ r. r.1) (give_not_held (world g.D.Disk.meaning pool c.args.self.now) c.args.party c.args.lease (grind (arith, nat_tests)) (grind (arith, nat_tests)))); bench = λ pool. sym (ap (λ r. r.0) (give_not_held (world g.D.Disk.meaning pool c.args.self.now) c.args.party c.args.lease (grind (arith, nat_tests)) (grind (arith, nat_tests)))) }
 
-pub invariant-of-self : goal.invariant-of-self
-invariant-of-self g c =
+pub invariant_of-self : goal.invariant_of-self
+invariant_of-self g c =
     let b = c.args.self.now in
-    (b.time, (b.calls, (b.failed, (b.safe, (every_set_none lease_ok b.leases c.args.lease b.lent, (b.resting, (all_later_give b.now b.lapse b.lanes b.leases c.args.lease b.unheld, (b.sooner, (b.alive, tt)))))))))
+    record {
+      time = b.time;
+      calls = b.calls;
+      failed = b.failed;
+      safe = b.safe;
+      lent = every_set_none lease_ok b.leases c.args.lease b.lent;
+      resting = b.resting;
+      unheld = all_later_give b.now b.lapse b.lanes b.leases c.args.lease b.unheld;
+      sooner = b.sooner;
+      alive = b.alive;
+    }
 
 pub returns : goal.returns
 returns g c =
-    let out = c.if-not-is-out.ensures.value in
+    let out = c.if-not-is_out.ensures.value in
     record { answer = λ pool. sym (ap (λ r. r.1) (give_taken (world g.D.Disk.meaning pool c.args.self.now) c.args.party c.args.lease (grind (arith, nat_tests)) (grind (arith, nat_tests)))); bench = λ pool. sym (ap (λ r. r.0) (give_taken (world g.D.Disk.meaning pool c.args.self.now) c.args.party c.args.lease (grind (arith, nat_tests)) (grind (arith, nat_tests)))) }

@@ -22,10 +22,20 @@ returns-then-not-honours g c =
       spent = λ old. grind (arith, nat_tests);
     }
 
-pub invariant-of-self : goal.invariant-of-self
-invariant-of-self g c =
+pub invariant_of-self : goal.invariant_of-self
+invariant_of-self g c =
     let b = c.args.self.now in
-    (b.time, (b.calls, (b.failed, (b.safe, (every_set_none lease_ok b.leases c.args.slip.now.lease b.lent, (b.resting, (all_later_give b.now b.lapse b.lanes b.leases c.args.slip.now.lease b.unheld, (b.sooner, (b.alive, tt)))))))))
+    record {
+      time = b.time;
+      calls = b.calls;
+      failed = b.failed;
+      safe = b.safe;
+      lent = every_set_none lease_ok b.leases c.args.slip.now.lease b.lent;
+      resting = b.resting;
+      unheld = all_later_give b.now b.lapse b.lanes b.leases c.args.slip.now.lease b.unheld;
+      sooner = b.sooner;
+      alive = b.alive;
+    }
 
 pub returns : goal.returns
 returns g c =

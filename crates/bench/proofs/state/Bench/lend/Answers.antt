@@ -16,40 +16,50 @@ returns-then-head-gt7 g c =
     let e = c.then-head-gt7.either in
     record { answer = λ pool. sym (ap (λ r. r.1) (take_off_limits (world g.D.Disk.meaning pool c.args.self.now) c.args.head c.args.block c.args.party c.args.slip (grind (arith, nat_tests)))); bench = λ pool. sym (ap (λ r. r.0) (take_off_limits (world g.D.Disk.meaning pool c.args.self.now) c.args.head c.args.block c.args.party c.args.slip (grind (arith, nat_tests)))); honoured = tt }
 
-pub returns-in-default : goal.returns-in-default
-returns-in-default g c =
+pub returns-in_default : goal.returns-in_default
+returns-in_default g c =
     record { answer = λ pool. sym (ap (λ r. r.1) (take_empty (world g.D.Disk.meaning pool c.args.self.now) c.args.head c.args.block c.args.party c.args.slip (grind (arith, nat_tests)) (grind (arith, nat_tests)))); bench = λ pool. sym (ap (λ r. r.0) (take_empty (world g.D.Disk.meaning pool c.args.self.now) c.args.head c.args.block c.args.party c.args.slip (grind (arith, nat_tests)) (grind (arith, nat_tests)))); honoured = tt }
 
-pub returns-then-not-is-there : goal.returns-then-not-is-there
-returns-then-not-is-there g c =
-    let there = c.if-not-is-there.ensures in
+pub returns-then-not-is_there : goal.returns-then-not-is_there
+returns-then-not-is_there g c =
+    let there = c.if-not-is_there.ensures in
     record { answer = λ pool. sym (ap (λ r. r.1) (take_gone (world g.D.Disk.meaning pool c.args.self.now) c.args.head c.args.block c.args.party c.args.slip (grind (arith, nat_tests)) (grind (arith, nat_tests)) (grind (arith, nat_tests)))); bench = λ pool. sym (ap (λ r. r.0) (take_gone (world g.D.Disk.meaning pool c.args.self.now) c.args.head c.args.block c.args.party c.args.slip (grind (arith, nat_tests)) (grind (arith, nat_tests)) (grind (arith, nat_tests)))); honoured = tt }
 
-pub returns-then-is-past-last : goal.returns-then-is-past-last
-returns-then-is-past-last g c =
-    let there = c.if-not-is-there.ensures in
-    let past = c.if-is-past-last.ensures in
-    let n = c.first-vacant-number.ensures.value in
+pub returns-then-is_past_last : goal.returns-then-is_past_last
+returns-then-is_past_last g c =
+    let there = c.if-not-is_there.ensures in
+    let past = c.if-is_past_last.ensures in
+    let n = c.first_vacant-number.ensures.value in
     record { answer = λ pool. sym (ap (λ r. r.1) (take_out (world g.D.Disk.meaning pool c.args.self.now) c.args.head c.args.block c.args.party c.args.slip (grind (arith, nat_tests)) (grind (arith, nat_tests)) (grind (arith, nat_tests)) (grind (arith, nat_tests)))); bench = λ pool. sym (ap (λ r. r.0) (take_out (world g.D.Disk.meaning pool c.args.self.now) c.args.head c.args.block c.args.party c.args.slip (grind (arith, nat_tests)) (grind (arith, nat_tests)) (grind (arith, nat_tests)) (grind (arith, nat_tests)))); honoured = tt }
 
-pub new-lease-requires : goal.new-lease-requires
-new-lease-requires g c =
+pub new_lease-requires : goal.new_lease-requires
+new_lease-requires g c =
     let k = every_at lane_ok c.args.self.now.lanes c.args.head c.in-Some.lane c.args.self.now.safe c.in-Some.is in
-    (live_kept c.in-Some.lane k (there_live c.args.self.now.now c.in-Some.lane c.args.block (sym c.if-not-is-there.ensures)), omega arith)
+    (live_kept c.in-Some.lane k (there_live c.args.self.now.now c.in-Some.lane c.args.block (sym c.if-not-is_there.ensures)), omega arith)
 
-pub invariant-of-self : goal.invariant-of-self
-invariant-of-self g c =
+pub invariant_of-self : goal.invariant_of-self
+invariant_of-self g c =
     let b = c.args.self.now in
     let k = every_at lane_ok b.lanes c.args.head c.in-Some.lane b.safe c.in-Some.is in
-    let v = live_kept c.in-Some.lane k (there_live b.now c.in-Some.lane c.args.block (sym c.if-not-is-there.ensures)) in
+    let v = live_kept c.in-Some.lane k (there_live b.now c.in-Some.lane c.args.block (sym c.if-not-is_there.ensures)) in
     let lease : lease_ok c.new_lease.result ≡ true = rw c.new_lease.ensures (lt-ltb _ 32 (buffer_below c.in-Some.lane _ v)) in
-    (b.time, (b.calls, (b.failed, (b.safe, (every_set_some lease_ok b.leases c.first-vacant-number.result c.new_lease.result b.lent lease, (every_true (rests 0) rests_zero b.lanes, (all_later_lend b.now b.lapse c.lease-lapse-own.result _ b.lanes b.leases c.first-vacant-number.result c.new_lease.result (omega arith) (omega arith) b.unheld c.lease-lapse-own.ensures, (omega arith, (b.alive, tt)))))))))
+    record {
+      time = b.time;
+      calls = b.calls;
+      failed = b.failed;
+      safe = b.safe;
+      lent = every_set_some lease_ok b.leases c.first_vacant-number.result c.new_lease.result b.lent lease;
+      resting = every_true (rests 0) rests_zero b.lanes;
+      unheld = all_later_lend b.now b.lapse c.lease_lapse-own.result _ b.lanes b.leases c.first_vacant-number.result c.new_lease.result (omega arith) (omega arith) b.unheld c.lease_lapse-own.ensures;
+      sooner = omega arith;
+      alive = b.alive;
+    }
 
 pub returns : goal.returns
 returns g c =
     let b = c.args.self.now in
-    let there = c.if-not-is-there.ensures in
-    let n = c.first-vacant-number.ensures.value in
+    let there = c.if-not-is_there.ensures in
+    let n = c.first_vacant-number.ensures.value in
     let l : c.in-Some.lane ≡ lane_at b.lanes c.args.head = grind arith in
     let w = λ (pool : List ℕ). world g.D.Disk.meaning pool b in
     let e = λ (pool : List ℕ). take_lent (w pool) c.args.head c.args.block c.args.party c.args.slip (grind (arith, nat_tests)) (grind (arith, nat_tests)) (grind (arith, nat_tests)) (grind (arith, nat_tests)) in
@@ -58,6 +68,6 @@ returns g c =
       answer = λ pool. rw n (sym (ap (λ r. r.1) (e pool)));
       bench = left;
       honoured = λ is pool.
-          subst (λ x. honours x (record { lease = c.first-vacant-number.result; bench = b.number; party = c.args.party }) ≡ true) (sym (left pool))
-          (lent_honoured (w pool) c.args.head c.args.block c.args.party c.args.slip c.first-vacant-number.result (omega arith) is n (ap (λ r. r.1) (e pool)));
+          subst (λ x. honours x (record { lease = c.first_vacant-number.result; bench = b.number; party = c.args.party }) ≡ true) (sym (left pool))
+          (lent_honoured (w pool) c.args.head c.args.block c.args.party c.args.slip c.first_vacant-number.result (omega arith) is n (ap (λ r. r.1) (e pool)));
     }

@@ -6,10 +6,20 @@ use Rattle.bench.proofs.Rests.{every_true, rests_zero, all_later_sooner}
 use Rattle.bench.proofs.Ticks.{chosen_due, served_idle, served_chosen, passed_is, told_by}
 use Rattle.bench.proofs.state.Bench.pass.Goals as goal
 
-pub invariant-of-self : goal.invariant-of-self
-invariant-of-self g c =
+pub invariant_of-self : goal.invariant_of-self
+invariant_of-self g c =
     let b = c.args.self.now in
-    (omega (arith, c.requires.1), (omega (arith, b.calls), (b.failed, (b.safe, (b.lent, (every_true (rests 0) rests_zero b.lanes, (all_later_sooner b.now (b.now + 1) b.lapse b.lanes b.leases (omega arith) b.unheld, (omega arith, (b.alive, tt)))))))))
+    record {
+      time = omega (arith, c.requires.1);
+      calls = omega (arith, b.calls);
+      failed = b.failed;
+      safe = b.safe;
+      lent = b.lent;
+      resting = every_true (rests 0) rests_zero b.lanes;
+      unheld = all_later_sooner b.now (b.now + 1) b.lapse b.lanes b.leases (omega arith) b.unheld;
+      sooner = omega arith;
+      alive = b.alive;
+    }
 
 pub serve-requires : goal.serve-requires
 serve-requires g c =

@@ -7,9 +7,9 @@ pub returns-then-head-gt7 : goal.returns-then-head-gt7
 unfolding report
 returns-then-head-gt7 g c = λ pool. grind (arith, nat_tests)
 
-pub returns-in-default : goal.returns-in-default
+pub returns-in_default : goal.returns-in_default
 unfolding report
-returns-in-default g c = λ pool. grind (arith, nat_tests)
+returns-in_default g c = λ pool. grind (arith, nat_tests)
 
 pub returns : goal.returns
 unfolding report

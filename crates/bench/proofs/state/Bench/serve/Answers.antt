@@ -14,12 +14,22 @@ attempt-told-requires g c =
     let d = due_ok b.now b.lanes c.args.head c.in-Some.lane b.safe c.in-Some.is c.requires.1.0 in
     (d.0, (d.1, c.requires.1.1.0))
 
-pub invariant-of-self : goal.invariant-of-self
-invariant-of-self g c =
+pub invariant_of-self : goal.invariant_of-self
+invariant_of-self g c =
     let b = c.args.self.now in
     let safe = attempted_every b.now b.lanes c.args.head c.in-Some.lane _ _ _ _ _ _ b.safe c.in-Some.is c.requires.1.0 c.attempt-told.ensures.outcome in
     let apart = attempted_later b.now b.lapse b.lanes b.leases c.args.head c.in-Some.lane _ _ _ _ _ _ c.in-Some.is c.attempt-told.ensures.outcome b.unheld in
-    (omega (arith, c.requires.1.1.1), (omega (arith, b.calls), (omega (arith, b.failed, failures_few c.attempt-told.result, c.failures_in.ensures), (safe, (b.lent, (every_true (rests 0) rests_zero (set b.lanes c.args.head (Some c.attempt-told.new.lane)), (apart, (omega arith, (c.any-live-self.ensures.value, tt)))))))))
+    record {
+      time = omega (arith, c.requires.1.1.1);
+      calls = omega (arith, b.calls);
+      failed = omega (arith, b.failed, failures_few c.attempt-told.result, c.failures_in.ensures);
+      safe = safe;
+      lent = b.lent;
+      resting = every_true (rests 0) rests_zero (set b.lanes c.args.head (Some c.attempt-told.new.lane));
+      unheld = apart;
+      sooner = omega arith;
+      alive = c.any_live-self.ensures.value;
+    }
 
 pub returns : goal.returns
 returns g c =

@@ -14,8 +14,8 @@ returns-then-pool-ne2048 g c = sym (ap (λ r. r.1) (show_slip_wrong_size (world 
 pub returns-then-not-honours : goal.returns-then-not-honours
 returns-then-not-honours g c = let out = c.if-not-honours.ensures.value in sym (ap (λ r. r.1) (show_slip_not_held (world g.D.Disk.meaning c.args.pool.now c.args.self.now) (named c.args.slip.now) (grind (arith, nat_tests)) (grind (arith, nat_tests))))
 
-pub slice-bounds-result-end : goal.slice-bounds-result-end
-slice-bounds-result-end g c =
+pub slice_bounds-result-end : goal.slice_bounds-result-end
+slice_bounds-result-end g c =
     let h = ltb-true c.in-Some.held.buffer 32 (every_at lease_ok c.args.self.now.leases c.args.slip.now.lease c.in-Some.held c.args.self.now.lent c.in-Some.is) in
     search rules
 

@@ -16,10 +16,20 @@ pub returns-then-self-eq1000000 : goal.returns-then-self-eq1000000
 unfolding tick
 returns-then-self-eq1000000 g c = record { answer = grind (arith, nat_tests); bench = grind (arith, nat_tests); ended = tt; origin = tt }
 
-pub invariant-of-self : goal.invariant-of-self
-invariant-of-self g c =
+pub invariant_of-self : goal.invariant_of-self
+invariant_of-self g c =
     let b = c.args.self.now in
-    (omega (arith, b.time), (omega (arith, b.calls), (b.failed, (b.safe, (b.lent, (b.resting, (all_later_sooner b.now (b.now + 1) b.lapse b.lanes b.leases (omega arith) b.unheld, (b.sooner, (b.alive, tt)))))))))
+    record {
+      time = omega (arith, b.time);
+      calls = omega (arith, b.calls);
+      failed = b.failed;
+      safe = b.safe;
+      lent = b.lent;
+      resting = b.resting;
+      unheld = all_later_sooner b.now (b.now + 1) b.lapse b.lanes b.leases (omega arith) b.unheld;
+      sooner = b.sooner;
+      alive = b.alive;
+    }
 
 pub returns-then-self : goal.returns-then-self
 returns-then-self g c =
@@ -43,6 +53,6 @@ returns g c =
     record {
       answer = c.pass-did.ensures.answer ∙ ap (λ (x : World × Answer). x.1) e;
       bench = c.pass-did.ensures.bench ∙ ap (λ (x : World × Answer). x.0) e;
-      ended = c.ended-since-ended.ensures c.args.self.now.lanes c.live-heads-was.ensures;
+      ended = c.ended_since-ended.ensures c.args.self.now.lanes c.live_heads-was.ensures;
       origin = c.pass-did.ensures.origin;
     }
