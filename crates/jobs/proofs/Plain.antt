@@ -152,12 +152,18 @@ all_aged_plain t es [] = refl
 all_aged_plain t es (None ∷ ls) = ap (λ os. None ∷ os) (all_aged_plain t es ls)
 all_aged_plain t es (Some l ∷ ls) = λ i. Some (happens_plain l (BurnEnd (any (holds_up t l) es) (eqb (deadline l.order.timing l.order.timing.count) t)) i) ∷ all_aged_plain t es ls i
 
-how_ended_plain : (l : Lane) (o : Option Lane) → how_ended (plain_lane l) (changed plain_lane o) ≡ how_ended l o
-how_ended_plain l None = refl
-how_ended_plain l (Some l') = λ i. cond (live_plain l.stage i && not (live_plain l'.stage i)) (Some (cause_plain l'.stage i)) None
+how_ended_plain : (was : Bool) (o : Option Lane) → how_ended was (changed plain_lane o) ≡ how_ended was o
+how_ended_plain was None = refl
+how_ended_plain was (Some l) = λ i. cond (was && not (live_plain l.stage i)) (Some (cause_plain l.stage i)) None
 
 pub ended_plain : (ls ls' : List (Option Lane)) → ends (plain_lanes ls) (plain_lanes ls') ≡ ends ls ls'
-ended_plain ls ls' = λ i. map (λ h. (ap (λ (o : Option Lane). how_ended (lane_at (plain_lanes ls) h) o) (get_or_plain ls' h) ∙ (ap (λ (l : Lane). how_ended l (changed plain_lane (get_or ls' h None))) (lane_at_plain ls h) ∙ how_ended_plain (lane_at ls h) (get_or ls' h None))) i) (range_with_len 0 8)
+ended_plain ls ls' = λ i. map (λ h. at h i) (range_with_len 0 8)
+  where
+    at : (h : ℕ) → how_ended (is_live (lane_at (plain_lanes ls) h).stage) (get_or (plain_lanes ls') h None) ≡ how_ended (is_live (lane_at ls h).stage) (get_or ls' h None)
+    at h =
+        let was = is_live (lane_at ls h).stage in
+        let same : is_live (lane_at (plain_lanes ls) h).stage ≡ was = ap (λ (l : Lane). is_live l.stage) (lane_at_plain ls h) ∙ live_plain (lane_at ls h).stage in
+        ap (λ b. how_ended b (get_or (plain_lanes ls') h None)) same ∙ (ap (how_ended was) (get_or_plain ls' h) ∙ how_ended_plain was (get_or ls' h None))
 
 set_plain : (ls : List (Option Lane)) (h : ℕ) (o : Option Lane) → set (plain_lanes ls) h (changed plain_lane o) ≡ plain_lanes (set ls h o)
 set_plain ls h o = sym (map-set (changed plain_lane) ls h o)

@@ -1,5 +1,5 @@
 -- A tick's lines.
-use Rattle.std.proofs.Common.{◌≡◌, ℕ, suc, ◌+◌, ◌<◌, ◌≤◌, Bool, true, false, cond, eqb, List, ◌++◌, length, get_or, drop, IfOk, Some, None, Option, Result, sym, refl, ap, ◌∙◌, append_assoc, append-nil, add-one, arith}
+use Rattle.std.proofs.Common.{◌≡◌, ℕ, suc, ◌+◌, ◌<◌, ◌≤◌, Bool, true, false, cond, eqb, List, [], ◌∷◌, ◌++◌, length, get_or, drop, IfOk, Some, None, Option, Result, sym, refl, ap, ◌∙◌, append_assoc, append-nil, add-one, arith}
 use Rattle.std.specs.declared.alloc.AllocError.{AllocError}
 use Rattle.std.proofs.lemmas.List.{drop_all, drop_more}
 use Rattle.std.proofs.lemmas.Result.{IfOk-weaker}
@@ -11,7 +11,7 @@ use Rattle.history.specs.declared.Ticked.{Ticked}
 use Rattle.history.specs.Bench.{World, lane_at}
 use Rattle.history.specs.Calls.{Answer, refused, done, ticked, leased, slipped, shown, reported, choice, next_block, passed, served, tick, tick_checks, ends}
 use Rattle.history.proofs.Checks.{passes}
-use Rattle.jobs.specs.Lines.{did_line, tick_line, ended_line, ended_lines}
+use Rattle.jobs.specs.Lines.{did_line, tick_line, ended_line, ended_lines, NoneIn}
 use Rattle.jobs.specs.Run.{SlotPassed}
 
 -- the lanes that ended, from head h on
@@ -25,6 +25,12 @@ ended_more slot h cs log log' all lt l so_far =
 
 pub ended_all : (slot h : ℕ) (cs : List (Option Cause)) (log all : List ℕ) → length cs ≤ h → log ++ ended_lines slot h (drop h cs) ≡ all → log ≡ all
 ended_all slot h cs log all le so_far = sym (append-nil log) ∙ (ap (λ (xs : List (Option Cause)). log ++ ended_lines slot h xs) (sym (drop_all h cs le)) ∙ so_far)
+
+-- where no lane ended there is no line
+pub lines_none : (slot h : ℕ) (cs : List (Option Cause)) → NoneIn cs → ended_lines slot h cs ≡ []
+lines_none slot h [] none = refl
+lines_none slot h (None ∷ cs) none = lines_none slot (suc h) cs (λ k. none (suc k))
+lines_none slot h (Some cause ∷ cs) none = let e : Some cause ≡ None = none 0 in cc
 
 -- THE TICK
 

@@ -84,7 +84,7 @@ fn slot_of_first(queue: &Queue<Due>) -> Option<u32>
 
 // Whether the run ends, once the cues of the slot have run: no cue and no live lane is left, or no slot.
 fn is_over<D: Disk>(bench: &Bench<D>, next: Option<u32>) -> bool
-    ensures { result ≡ ends_at bench.now.now next bench.now.lanes }
+    ensures { result ≡ ends_at bench.entry.now.now next bench.entry.now.lanes }
 {
     if bench.slot() == LAST {
         return true;
@@ -96,7 +96,7 @@ fn is_over<D: Disk>(bench: &Bench<D>, next: Option<u32>) -> bool
 }
 
 fn last_line<D: Disk>(bench: &Bench<D>) -> LogLine
-    ensures { (pool : List ℕ) → log_line result ≡ end_text (world D.Disk.meaning pool bench.now) }
+    ensures { (pool : List ℕ) → log_line result ≡ end_text (world D.Disk.meaning pool bench.entry.now) }
 {
     LogLine::Done {
         slot: bench.slot(),

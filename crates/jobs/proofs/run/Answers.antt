@@ -9,9 +9,9 @@ use Rattle.jobs.proofs.run.Goals as goal
 
 pub returns-in-Some : goal.returns-in-Some
 returns-in-Some c =
-    let text : IfOk c.run-image.result (λ log. (told : ℕ → Fault) → vec_items log ≡ job_text told (option_map (λ x. x.now) c.args.image) c.args.cues.now) =
-    IfOk-weaker c.run-image.result _ _ (λ log e told. e told ∙ ap (λ o. job_text told (option_map (λ x. x.now) o) c.args.cues.now) (sym c.in-Some.is)) c.run-image.ensures in
-    record { text = text; history = IfOk-weaker c.run-image.result _ _ (λ log e. job_told (option_map (λ x. x.now) c.args.image) c.args.cues.now (vec_items log) (e untold)) text }
+    let text : IfOk c.run_image.result (λ log. (told : ℕ → Fault) → vec_items log ≡ job_text told (option_map (λ x. x.now) c.args.image) c.args.cues.now) =
+    IfOk-weaker c.run_image.result _ _ (λ log e told. e told ∙ ap (λ o. job_text told (option_map (λ x. x.now) o) c.args.cues.now) (sym c.in-Some.is)) c.run_image.ensures in
+    record { text = text; history = IfOk-weaker c.run_image.result _ _ (λ log e. job_told (option_map (λ x. x.now) c.args.image) c.args.cues.now (vec_items log) (e untold)) text }
 
 pub returns-in-None : goal.returns-in-None
 returns-in-None c =

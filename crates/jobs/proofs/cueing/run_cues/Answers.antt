@@ -39,13 +39,13 @@ loop-due-preserved g c =
       λ pool.
           let w : World = world g.D.Disk.meaning pool l.bench in
           cue_more w (vec_items l.log) (in_order due_before (held l.queue)) _ (l.invariant.1 pool) _ _ (in_order due_before (held c.pop.new.self)) d rest (omega (arith, c.slot.ensures pool))
-          (c.in-ok-add.ensures ∙ ap (λ (t : List ℕ). vec_items l.log ++ t) (c.call-line.ensures.line pool)) (c.call-line.ensures.bench pool),
+          (c.in_ok-add.ensures ∙ ap (λ (t : List ℕ). vec_items l.log ++ t) (c.call-line.ensures.line pool)) (c.call-line.ensures.bench pool),
     )
 
 pub returns : goal.returns
 returns g c =
     let l = c.loop-due in
-    let over = none_waits (held l.queue) (c.in-default.ensures.answer l.invariant.0) in
+    let over = none_waits (held l.queue) (c.in_default.ensures.answer l.invariant.0) in
     record {
       ran = λ pool. record { ran = cues_over (world g.D.Disk.meaning pool l.bench) (vec_items l.log) (in_order due_before (held l.queue)) _ (l.invariant.1 pool) over; first = sym (ap first_slot over) };
       sound = l.invariant.0;
