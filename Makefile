@@ -11,7 +11,7 @@ target/bin/%: crates.txt $(shell find crates -name '*.rt' -o -name '*.antt')
 	rt check $*
 
 test:
-	rt ci
+	tools/gate
 
 speed:
 	rt staticlib schedule_speed

@@ -4,7 +4,7 @@ use Rattle.refusal.specs.declared.Refusal.TheVariants.{Bounds, NotThere, LeasesO
 use Rattle.history.specs.Bench.{World, lane_at}
 use Rattle.std.proofs.lemmas.Bool.{false≢true}
 use Rattle.history.proofs.Slips.{taken_honoured}
-use Rattle.history.specs.Calls.{Answer, honours, refuse, there, vacant, taken, lease_told, take_block}
+use Rattle.history.specs.Calls.{honours, refuse, there, vacant, taken, lease_told, take_block}
 
 module _ (w : World) (h i party : ℕ) (slip : Bool) where
   abbrev pub off_limits : Bool

@@ -1,10 +1,10 @@
 -- One call more of a list.
-use Rattle.std.proofs.Common.{◌≡◌, ℕ, suc, ◌+◌, Bool, true, false, List, [], ◌∷◌, ◌++◌, map, length, Ok, Err, Option, Result, sym, refl, ap, ◌∙◌, subst, arith, length-append}
+use Rattle.std.proofs.Common.{◌≡◌, ℕ, Bool, true, false, List, [], ◌∷◌, ◌++◌, length, Ok, Err, Option, Result, sym, refl, ap, ◌∙◌, subst, arith, length-append}
 use Rattle.std.proofs.lemmas.List.{map-append}
 use Rattle.refusal.specs.declared.Refusal.{Refusal}
 use Rattle.history.specs.declared.Lane.{Lane}
 use Rattle.history.specs.Bench.{World}
-use Rattle.history.specs.Calls.{Answer as Told, answered, lease_told, take_block}
+use Rattle.history.specs.Calls.{answered, lease_told, take_block}
 use Rattle.history.specs.Told.{Call as Asks, call, after, answers}
 use Rattle.history.proofs.Runs.{after_more, answers_more}
 use Rattle.bench.specs.declared.performing.Answer.{Answer}

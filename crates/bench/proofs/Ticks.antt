@@ -1,8 +1,8 @@
 -- What a slot does to a bench.
-use Rattle.std.proofs.Common.{◌≡◌, ℕ, zero, suc, ◌+◌, ◌-◌, ◌*◌, ◌%◌, ◌<◌, ◌≤◌, Bool, true, false, cond, not, ◌&&◌, ◌||◌, eqb, ltb, leb, List, [], ◌∷◌, ◌++◌, map, length, get_or, take, drop, set, Some, None, Ok, Err, Option, Result, sym, refl, ap, ◌∙◌, subst, inl, inr, add-zero, add-one, arith, MatchOption, MatchResult}
+use Rattle.std.proofs.Common.{◌≡◌, ℕ, zero, suc, ◌+◌, ◌*◌, ◌%◌, ◌<◌, ◌≤◌, Bool, true, false, cond, not, ◌&&◌, ◌||◌, eqb, ltb, leb, List, [], ◌∷◌, ◌++◌, map, length, get_or, take, drop, set, Some, None, Ok, Err, Option, Result, sym, refl, ap, ◌∙◌, subst, inl, inr, add-zero, add-one, arith, MatchOption, MatchResult}
 use Rattle.std.proofs.ByRecursion.{All-weaker}
-use Rattle.std.proofs.lemmas.List.{append_assoc, append-nil, length-map, length-take, length-drop, take_all, drop_all, drop_more, drop-drop, take-append-drop, map_more, get_or_at, get_or-set_same, get_or-set_other, set_at, at_drop_more, at_drop_all}
-use Rattle.std.proofs.lemmas.Bool.{both_ways, cases_Bool, cases_eq, false≢true, cond_both, ltb-true}
+use Rattle.std.proofs.lemmas.List.{append_assoc, append-nil, length-map, length-take, length-drop, take_all, drop_all, drop_more, drop-drop, take-append-drop, map_more, get_or_at, get_or-set_same, get_or-set_other, set_at, at_drop_more}
+use Rattle.std.proofs.lemmas.Bool.{both_ways, cases_eq, false≢true, cond_both, ltb-true}
 use Rattle.std.proofs.lemmas.Bool.Decides.{nat_tests}
 use Rattle.refusal.specs.Told.{refusal_number, answer_number}
 use Rattle.refusal.specs.declared.Fault.{Fault}
@@ -13,8 +13,6 @@ use Rattle.disk.specs.Meaning.{Block, Reads, block_at, none_coming, read_number,
 use Rattle.queue.specs.declared.request.ReadRequest.{ReadRequest}
 use Rattle.queue.specs.Order.{Foremost}
 use Rattle.schedule.specs.Orders.{deadline}
-use Rattle.schedule.specs.declared.Timing.{Timing}
-use Rattle.history.specs.declared.Event.{Event}
 use Rattle.history.specs.declared.Event.TheVariants.{FailedAttempt, BlockRead, BurnEnd}
 use Rattle.history.specs.declared.Lane.{Lane}
 use Rattle.history.specs.declared.Lease.{Lease}

@@ -10,7 +10,6 @@ use Rattle.queue.specs.Held.{held, room, Sound}
 use Rattle.queue.specs.Keys.{by_keys}
 use Rattle.queue.specs.Requests.{request_keys}
 use Rattle.schedule.specs.declared.Timing.{Timing}
-use Rattle.history.specs.declared.Event.{Event}
 use Rattle.history.specs.declared.Event.TheVariants.{FailedAttempt, BlockRead}
 use Rattle.history.specs.declared.Lane.{Lane}
 use Rattle.history.specs.declared.Tick.{Tick}

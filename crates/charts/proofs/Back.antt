@@ -1,13 +1,13 @@
 -- The line of a log reads as what it tells.
-use Rattle.std.proofs.Common.{◌≡◌, ℕ, ◌+◌, ◌^◌, ◌<◌, ◌≤◌, Bool, true, false, cond, ◌&&◌, ◌||◌, eqb, ltb, leb, ◌⊎◌, List, [], ◌∷◌, ◌++◌, map, length, get_or, set, Some, Ok, Err, codes, decimal, Result, sym, refl, ap, ◌∙◌, subst, inl, inr, ⊎_elim, append_assoc, append-nil, arith, lit<}
-use Rattle.std.specs.List.{flat_map, AllByRecursion as All}
+use Rattle.std.proofs.Common.{◌≡◌, ℕ, ◌+◌, ◌^◌, ◌<◌, ◌≤◌, Bool, true, false, cond, ◌&&◌, ◌||◌, eqb, ltb, leb, ◌⊎◌, List, [], ◌∷◌, ◌++◌, map, length, get_or, set, Ok, Err, codes, decimal, Result, sym, refl, ap, ◌∙◌, subst, inl, inr, ⊎_elim, append_assoc, append-nil, arith, lit<}
+use Rattle.std.specs.List.{AllByRecursion as All}
 use Rattle.std.specs.Char.{is_ascii_digit}
 use Rattle.std.specs.Str.{all_ascii_digits}
 use Rattle.std.proofs.lemmas.Fmt.{digits_decimal, decimal_nonempty}
 use Rattle.std.proofs.lemmas.Bool.{cond-true, cond-false, and_parts, and_from, eq-eqb, ne_eqb, le-leb, lt-ltb}
-use Rattle.cues.specs.Words.{Word, number, cut, words, word_of}
+use Rattle.cues.specs.Words.{Word, words}
 use Rattle.cues.specs.Forms.{Placed, placed}
-use Rattle.cues.specs.Reading.{words_from, place_after}
+use Rattle.cues.specs.Reading.{words_from}
 use Rattle.cues.proofs.RoundTrip.{Unspaced, cut_lacking, words_one, own, lacks_decimal, word_decimal}
 use Rattle.cues.proofs.Words.{digit_range}
 use Rattle.refusal.specs.Told.{kind_number, refusal_number, refusal_values, told, answer_number}
@@ -15,12 +15,10 @@ use Rattle.refusal.specs.declared.FaultKind.TheVariants.{ReadFailed, Beyond}
 use Rattle.refusal.specs.declared.Refusal.{Refusal}
 use Rattle.refusal.specs.declared.Refusal.TheVariants.{Bounds, HeadTaken, Past, OffDisk, PoolShort, Crowded, WrongSize, LastSlot, NotThere, LeasesOut, NotHeld, HeadEmpty, Faulted, BadImage, BadEntry, BadCue, Full, ShortOutput}
 use Rattle.refusal.proofs.Numbers.{refusal_above}
-use Rattle.loglines.specs.Text.{spaced, opening, order_told, take_told, log_text}
-use Rattle.loglines.specs.declared.LogLine.{LogLine}
+use Rattle.loglines.specs.Text.{spaced, opening, order_told, take_told}
 use Rattle.loglines.specs.declared.LogLine.TheVariants as line
-use Rattle.charts.specs.Back.{told_entry, line_numbers, WrittenLinesReadBack}
+use Rattle.charts.specs.Back.{WrittenLinesReadBack}
 use Rattle.charts.specs.Entries.{wanted, entry_from, zeros, then_number, filled, made_entry, numbered, second_word, after_number, first_word, entry_form, begins_done, line_entry}
-use Rattle.charts.specs.declared.entry.Entry.{Entry}
 use Rattle.charts.specs.declared.entry.Kind.{Kind}
 use Rattle.charts.specs.declared.entry.Kind.TheVariants as kind
 

@@ -1,5 +1,5 @@
 -- The log of a job reads as what its lines tell.
-use Rattle.std.proofs.Common.{◌≡◌, ℕ, ◌+◌, ◌<◌, ◌≤◌, Bool, true, false, cond, ◌||◌, eqb, ltb, List, [], ◌∷◌, ◌++◌, map, Ok, Err, decimal, Result, sym, refl, ap, ◌∙◌, append_assoc, append-nil, lit<}
+use Rattle.std.proofs.Common.{◌≡◌, ℕ, ◌+◌, ◌≤◌, Bool, false, eqb, List, [], ◌∷◌, ◌++◌, map, Ok, decimal, Result, sym, refl, ap, ◌∙◌, append_assoc, append-nil, lit<}
 use Rattle.std.specs.List.{flat_map, AllByRecursion as All}
 use Rattle.std.proofs.lemmas.Bool.{cond-false, true≢false}
 use Rattle.cues.specs.Words.{lines, cut}
@@ -8,9 +8,8 @@ use Rattle.loglines.specs.Text.{spaced, opening, order_told, take_told, log_text
 use Rattle.loglines.specs.declared.LogLine.{LogLine}
 use Rattle.loglines.specs.declared.LogLine.TheVariants as line
 use Rattle.refusal.specs.Told.{answer_number}
-use Rattle.charts.specs.Back.{told_entry, line_numbers, Short, Running, RunsReadBack, RefusedListsReadBack, LogsReadBack}
-use Rattle.charts.specs.Entries.{line_entry}
-use Rattle.charts.specs.Logs.{is_end, is_misplaced, placed_entry, and_then, onto, line_read, lines_read, log_read}
+use Rattle.charts.specs.Back.{told_entry, Short, Running, RunsReadBack, RefusedListsReadBack, LogsReadBack}
+use Rattle.charts.specs.Logs.{is_end, is_misplaced, placed_entry, and_then, onto, lines_read}
 use Rattle.charts.specs.declared.entry.Entry.{Entry}
 use Rattle.charts.specs.declared.entry.Entry.TheVariants.{Order, Take, Give, Close, Read, Failed, Ended, Done, Refused}
 use Rattle.charts.specs.declared.log.LogFault.{LogFault}

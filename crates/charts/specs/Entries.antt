@@ -1,5 +1,5 @@
 -- What a line of a log says: the form of each kind of line, and which word is wrong where a line has none of them.
-use Rattle.std.specs.Prelude.{ℕ, ◌+◌, Bool, true, false, cond, ◌&&◌, ◌||◌, List, [], ◌∷◌, length, Some, None, Ok, Err, Option, Result, ◌==◌, nat_le, nat_lt, slice_index, slice_set}
+use Rattle.std.specs.Prelude.{ℕ, ◌+◌, Bool, cond, ◌&&◌, ◌||◌, List, [], ◌∷◌, length, Some, None, Ok, Err, Option, Result, ◌==◌, nat_le, nat_lt, slice_index, slice_set}
 use Rattle.cues.specs.Words.{Word, number, letter, neither, words, word_of}
 use Rattle.cues.specs.Forms.{Placed, placed}
 use Rattle.cues.specs.Reading.{words_from, place_after}

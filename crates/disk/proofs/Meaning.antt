@@ -1,12 +1,12 @@
 -- What holds of a read, by its outcome.
-use Rattle.std.proofs.Common.{◌≡◌, ℕ, ◌+◌, ◌-◌, ◌<◌, ◌≤◌, cond, eqb, List, [], ◌∷◌, length, get_or, set, refl, ap, ◌∙◌, ⊎_elim, arith}
+use Rattle.std.proofs.Common.{◌≡◌, ℕ, ◌+◌, ◌-◌, ◌<◌, cond, eqb, List, [], ◌∷◌, length, get_or, refl, ap, ◌∙◌, ⊎_elim, arith}
 use Rattle.std.proofs.lemmas.List.{set-get_or, length-set, get_or-set_same, get_or-set_other, get_or_past}
-use Rattle.std.proofs.lemmas.Bool.{cases_eq, cases_lt}
+use Rattle.std.proofs.lemmas.Bool.{cases_eq}
 use Rattle.std.proofs.lemmas.Bool.Decides.{nat_tests}
 use Rattle.refusal.specs.Told.{refusal_number}
 use Rattle.refusal.specs.declared.Refusal.{Refusal}
 use Rattle.disk.specs.Origin.{Unreadable}
-use Rattle.disk.specs.Meaning.{Block, ToCome, failures, dead, no_block, block_at, fewer, worn, read_after, Reads, less, after_reads, times, ReadsUseUpOneFailureEach}
+use Rattle.disk.specs.Meaning.{Block, ToCome, failures, dead, no_block, block_at, fewer, worn, read_after, Reads, less, times, ReadsUseUpOneFailureEach}
 
 module _ (m : List Block) (b : ℕ) (mem : List ℕ) where
   -- a read that is refused before anything is read

@@ -1,5 +1,5 @@
 -- What a disk means: its blocks in order, each with its bytes and its failures to come; and what a read does to that.
-use Rattle.std.specs.Prelude.{◌≡◌, ℕ, ◌+◌, ◌-◌, ◌<◌, ◌≤◌, Bool, true, false, cond, List, [], ◌∷◌, length, ◌==◌, nat_lt, slice_index_or, slice_set}
+use Rattle.std.specs.Prelude.{◌≡◌, ℕ, ◌+◌, ◌-◌, ◌<◌, ◌≤◌, Bool, false, cond, List, [], ◌∷◌, length, ◌==◌, nat_lt, slice_index_or, slice_set}
 
 -- how many reads of a block are still to fail: a whole number, or the block is dead, which is more than any number
 pub data ToCome : Type 0 where

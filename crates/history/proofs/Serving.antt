@@ -12,7 +12,7 @@ use Rattle.history.specs.declared.Stage.{Stage}
 use Rattle.history.specs.Bench.{is_live, lane_in, lane_at, no_lane, work}
 use Rattle.history.specs.Calls.{moved}
 use Rattle.history.proofs.Charges.{charge, charges, charged_in, windows_of, whole, fits_less, fits_rule, count_set, less_tries, serves, waits, on_time}
-use Rattle.history.proofs.Choosing.{Idle, Chosen, chosen, due_first}
+use Rattle.history.proofs.Choosing.{Idle, Chosen, due_first}
 use Rattle.history.proofs.Passing.{get_or_map_any}
 use Rattle.history.proofs.Sound.{IsLive}
 

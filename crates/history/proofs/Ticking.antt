@@ -5,8 +5,7 @@ use Rattle.std.proofs.lemmas.Bool.{cond_both, both_ways, cases_lt, cases_eq, and
 use Rattle.refusal.specs.declared.Fault.{Fault}
 use Rattle.disk.specs.Meaning.{Block, block_at, read_number, read_after}
 use Rattle.disk.proofs.Meaning.{wears}
-use Rattle.windows.specs.Windows.{NoneOverfull, count}
-use Rattle.windows.specs.Lanes.{attempts}
+use Rattle.windows.specs.Windows.{NoneOverfull}
 use Rattle.schedule.specs.Orders.{deadline, release}
 use Rattle.schedule.specs.declared.Timing.{Timing}
 use Rattle.history.specs.declared.Event.{Event}

@@ -1,16 +1,16 @@
 -- The records of a bed, one after the other.
-use Rattle.std.proofs.Common.{◌≡◌, ℕ, zero, suc, ◌+◌, ◌-◌, ◌*◌, ◌/◌, ◌<◌, ◌≤◌, min, List, [], ◌∷◌, ◌++◌, map, length, get_or, take, drop, replicate, sym, refl, ap, ◌∙◌, ⊎_elim, append-nil, mul-zero, mul-suc, arith, length-append, length-drop, length-take}
+use Rattle.std.proofs.Common.{◌≡◌, ℕ, zero, suc, ◌+◌, ◌-◌, ◌*◌, ◌<◌, ◌≤◌, min, List, [], ◌++◌, length, get_or, take, drop, replicate, sym, refl, ap, ◌∙◌, ⊎_elim, mul-zero, mul-suc, arith, length-append, length-drop, length-take}
 use lib.ListN.{length-replicate}
 use Rattle.std.specs.List.{range_with_len, flat_map}
 use Rattle.std.proofs.lemmas.List.FromFn.{length-map-range_with_len, get_or-map-range_with_len}
 use Rattle.std.proofs.lemmas.List.{take_at, take_all, drop_at, drop-drop, drop-replicate, ext_get_or, flat_map_more}
 use Rattle.std.proofs.lemmas.Bool.{cases_lt}
-use Rattle.disk.specs.Meaning.{Block, no_block, failures}
+use Rattle.disk.specs.Meaning.{no_block}
 use Rattle.disk.proofs.Surveys.{counting_more}
-use Rattle.image.specs.Beds.{RowsFit, rows_in, filled, row_at, bed_of, row_block, MeansItsRows}
-use Rattle.image.specs.Images.{ImageFits, record_at, image_block, image_meaning}
+use Rattle.image.specs.Beds.{RowsFit, rows_in, row_at, bed_of, row_block, MeansItsRows}
+use Rattle.image.specs.Images.{record_at, image_meaning}
 use Rattle.image.specs.Records.{record_of}
-use Rattle.image.proofs.Images.{length_image, get_or_image, get_or_image_whole}
+use Rattle.image.proofs.Images.{length_image, get_or_image_whole}
 use Rattle.image.proofs.Records.{written_reads_back}
 
 -- parts of one length w, joined

@@ -3,12 +3,12 @@ use Rattle.std.proofs.Common.{◌≡◌, ℕ, zero, suc, ◌+◌, ◌-◌, ◌<�
 use Rattle.std.proofs.lemmas.List.{get_or-set_same, get_or-set_other, get_or_past, get_or_push, get_or_append_left, length_push, at_drop_more, at_drop_all}
 use Rattle.std.proofs.lemmas.Bool.{cases_eq, cases_lt, eqb-true}
 use Rattle.std.proofs.lemmas.Bool.Decides.{nat_tests}
-use Rattle.disk.specs.Meaning.{ToCome, failures, dead, none_coming, less}
+use Rattle.disk.specs.Meaning.{failures, dead}
 use Rattle.disk.proofs.Meaning.{less_none}
-use Rattle.layers.specs.Entries.{place_of, left_coming, no_entry, planned, planned_times, new_entry, UsedUp}
+use Rattle.layers.specs.Entries.{place_of, left_coming, no_entry, planned, UsedUp}
 use Rattle.layers.specs.declared.plan.Entry.{Entry}
 use Rattle.layers.specs.declared.plan.Left.{Left}
-use Rattle.layers.specs.declared.plan.Left.TheVariants.{Times, Dead}
+use Rattle.layers.specs.declared.plan.Left.TheVariants.{Times}
 
 pub place_more : (es : List Entry) (b i : ℕ) → i < length es → place_of (drop i es) b ≡ cond (eqb (get_or es i no_entry).block b) 0 (suc (place_of (drop (i + 1) es) b))
 place_more es b i h = at_drop_more (λ xs. place_of xs b) es i no_entry h

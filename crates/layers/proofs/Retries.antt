@@ -1,5 +1,5 @@
 -- A block read again and again, and what the layer of a retry makes of it.
-use Rattle.std.proofs.Common.{◌≡◌, ℕ, ◌+◌, ◌-◌, ◌/◌, ◌<◌, ◌≤◌, List, map, length, get_or, set, refl, ap, subst, arith}
+use Rattle.std.proofs.Common.{◌≡◌, ℕ, ◌+◌, ◌-◌, ◌/◌, ◌<◌, ◌≤◌, List, length, get_or, set, refl, ap, subst, arith}
 use native.Mathlib.Nat.{div-eq_of_lt, div-eq-sub-div}
 use Rattle.std.proofs.lemmas.List.{length-set, length-map, get_or-set_same, get_or-map, map-set, set-set, set-get_or}
 use Rattle.std.proofs.lemmas.Bool.Decides.{nat_tests}

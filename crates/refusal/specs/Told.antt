@@ -3,10 +3,8 @@ use Rattle.std.specs.Prelude.{ℕ, List, [], ◌∷◌, Some, None, Ok, Err, Opt
 use Rattle.refusal.specs.declared.Fault.{Fault}
 use Rattle.refusal.specs.declared.FaultKind.{FaultKind}
 use Rattle.refusal.specs.declared.FaultKind.TheVariants.{ReadFailed, Beyond}
-use Rattle.refusal.specs.declared.Place.{Place}
 use Rattle.refusal.specs.declared.Refusal.{Refusal}
 use Rattle.refusal.specs.declared.Refusal.TheVariants.{Bounds, HeadTaken, Past, OffDisk, PoolShort, Crowded, WrongSize, LastSlot, NotThere, LeasesOut, NotHeld, HeadEmpty, Faulted, BadImage, BadEntry, BadCue, Full, ShortOutput}
-use Rattle.refusal.specs.declared.Span.{Span}
 
 abbrev pub kind_number : FaultKind → ℕ
 kind_number ReadFailed = 13

@@ -1,12 +1,12 @@
 -- The totals count the charged windows.
-use Rattle.std.proofs.Common.{◌≡◌, ℕ, zero, suc, ◌+◌, ◌-◌, ◌*◌, ◌<◌, ◌≤◌, max, cond, ◌&&◌, leb, List, [], ◌∷◌, ◌++◌, map, replicate, refl, ap, ◌∙◌, inl, inr, mul-le-mul_right, add-mul, arith}
+use Rattle.std.proofs.Common.{◌≡◌, ℕ, zero, suc, ◌+◌, ◌-◌, ◌*◌, ◌≤◌, max, cond, ◌&&◌, leb, List, [], ◌∷◌, ◌++◌, map, replicate, refl, ap, ◌∙◌, inl, inr, mul-le-mul_right, add-mul, arith}
 use Rattle.std.specs.List.{AllByRecursion as All}
 use Rattle.std.proofs.lemmas.Bool.{cases_lt}
 use Rattle.windows.specs.Lanes.{window, up_to, attempts}
 use Rattle.windows.specs.Windows.{Window, count, since}
 use Rattle.schedule.specs.declared.Work.{Work}
 use Rattle.schedule.specs.Orders.{WithinLimits, Proper, release, deadline, owed, lane, charged}
-use Rattle.schedule.specs.Rests.{Sound, rest, release_of, deadline_of, owed_of, inside, total}
+use Rattle.schedule.specs.Rests.{Sound, rest, release_of, owed_of, inside, total}
 
 pub sound_rest : (w : Work) → Proper w → Sound (rest w)
 sound_rest w p =

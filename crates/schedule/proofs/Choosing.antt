@@ -1,14 +1,14 @@
 -- The first released lane in the rule's order is the rule's choice, and what that says of every block that is left.
-use Rattle.std.proofs.Common.{◌≡◌, ℕ, ◌+◌, ◌-◌, ◌*◌, ◌/◌, ◌%◌, ◌<◌, ◌≤◌, max, ◌⊎◌, List, map, length, get_or, sym, refl, ap, ◌∙◌, subst, inl, inr, arith}
+use Rattle.std.proofs.Common.{◌≡◌, ℕ, ◌+◌, ◌*◌, ◌/◌, ◌%◌, ◌<◌, ◌≤◌, ◌⊎◌, List, map, length, get_or, ap, ◌∙◌, inl, inr, arith}
 use Rattle.std.specs.List.{AllByRecursion as All}
 use Rattle.std.proofs.ByRecursion.{All-from_get_or, All-get_or, All-weaker}
 use Rattle.std.proofs.lemmas.List.{get_or-map}
 use Rattle.std.proofs.lemmas.Bool.{cases_lt, cases_eq}
 use Rattle.schedule.specs.declared.rest.Rest.{Rest}
-use Rattle.schedule.specs.Choice.{Choice, OneChoice}
-use Rattle.schedule.specs.Rests.{Sound, release_of, deadline_of, ready, due, total, OverAt, blank}
-use Rattle.schedule.specs.Replay.{ticket, InOrder, Passed, Chosen, Busy}
-use Rattle.schedule.proofs.Times.{release_deadline, release_end, deadline_end, ready_first, due_first}
+use Rattle.schedule.specs.Choice.{OneChoice}
+use Rattle.schedule.specs.Rests.{Sound, release_of, deadline_of, ready, due, OverAt, blank}
+use Rattle.schedule.specs.Replay.{InOrder, Passed, Chosen}
+use Rattle.schedule.proofs.Times.{release_deadline, release_end, ready_first, due_first}
 use Rattle.schedule.proofs.Totals.{total_le, total_none, Into}
 use Rattle.schedule.proofs.Serving.{Calm}
 use Rattle.schedule.proofs.Queue.{ticket_head}

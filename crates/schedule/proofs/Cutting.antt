@@ -1,13 +1,11 @@
 -- The blocks that are due by h.
-use Rattle.std.proofs.Common.{◌≡◌, ℕ, zero, suc, ◌+◌, ◌-◌, ◌*◌, ◌/◌, ◌<◌, ◌≤◌, min, max, List, length, get_or, set, sym, refl, ap, ◌∙◌, subst, inl, inr, mul-le-mul_right, mul_comm, mul-le-mul_left, div-le_self, div-mul-le_self, arith}
+use Rattle.std.proofs.Common.{◌≡◌, ℕ, ◌+◌, ◌-◌, ◌/◌, ◌<◌, ◌≤◌, min, List, length, get_or, set, sym, refl, ◌∙◌, subst, mul-le-mul_right, mul_comm, mul-le-mul_left, div-mul-le_self, arith}
 use native.Mathlib.Nat.{lt-mul-div-succ}
-use Rattle.std.specs.List.{AllByRecursion as All}
 use Rattle.std.proofs.lemmas.List.Elements.{AllWithin-more_set}
 use Rattle.std.proofs.ByRecursion.{All-get_or, All-set}
 use Rattle.std.proofs.lemmas.List.{get_or_default, length-set}
-use Rattle.std.proofs.lemmas.Bool.{cases_lt, cases_eq}
 use Rattle.schedule.specs.declared.rest.Rest.{Rest}
-use Rattle.schedule.specs.Rests.{Sound, release_of, deadline_of, shortened, inside, total}
+use Rattle.schedule.specs.Rests.{Sound, shortened, inside}
 use Rattle.schedule.specs.Scan.{CutAt, CutTo, DueBy}
 use Rattle.schedule.proofs.Totals.{total_set, inside_cut, inside_shortened}
 

@@ -1,5 +1,5 @@
 -- The worked examples, by trying every span.
-use Rattle.std.proofs.Common.{◌≡◌, ℕ, List, [], ◌∷◌, map, Some, None, Option, refl, ap, subst, arith, MatchOption}
+use Rattle.std.proofs.Common.{◌≡◌, ℕ, List, [], ◌∷◌, map, Some, None, Option, refl, subst, MatchOption}
 use Rattle.std.specs.List.{AllByRecursion as All}
 use Rattle.windows.specs.Windows.{Window, Assigned, NoneOverfull, FirstOverfull, tried}
 use Rattle.windows.proofs.Find.{decision}

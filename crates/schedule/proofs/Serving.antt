@@ -1,9 +1,9 @@
 -- Attempts on one block.
-use Rattle.std.proofs.Common.{◌≡◌, ℕ, zero, suc, ◌+◌, ◌-◌, ◌*◌, ◌<◌, ◌≤◌, max, Bool, true, false, cond, ◌&&◌, eqb, ltb, leb, List, [], ◌∷◌, length, get_or, set, refl, ap, inl, inr, arith}
+use Rattle.std.proofs.Common.{◌≡◌, ℕ, zero, suc, ◌+◌, ◌<◌, ◌≤◌, max, Bool, true, false, cond, ◌&&◌, leb, List, length, get_or, set, refl, ap, inl, inr, arith}
 use Rattle.std.specs.List.{AllByRecursion as All}
-use Rattle.std.proofs.lemmas.Bool.{cases_lt, cases_eq}
+use Rattle.std.proofs.lemmas.Bool.{cases_eq}
 use Rattle.schedule.specs.declared.rest.Rest.{Rest}
-use Rattle.schedule.specs.Rests.{Sound, release_of, deadline_of, owed_of, served, inside, total, OverAt}
+use Rattle.schedule.specs.Rests.{release_of, deadline_of, owed_of, served, inside, total, OverAt}
 use Rattle.schedule.proofs.Totals.{total_set, total_le, Into}
 use Rattle.windows.proofs.Counts.{bounds}
 use Rattle.std.proofs.ByRecursion.{All-weaker}

@@ -1,5 +1,5 @@
 -- What is found of the totals, told of the charged windows.
-use Rattle.std.proofs.Common.{◌≡◌, ℕ, ◌<◌, ◌≤◌, List, ◌++◌, map, replicate, ◌∙◌, arith}
+use Rattle.std.proofs.Common.{◌≡◌, ℕ, ◌<◌, List, ◌++◌, map, replicate, arith}
 use Rattle.std.specs.List.{AllByRecursion as All}
 use Rattle.windows.specs.Windows.{count, Assigned, NoneOverfull, FirstOverfull, OverfullAt}
 use Rattle.windows.proofs.Serve.{hall}

@@ -2,7 +2,6 @@
 use Rattle.std.specs.Prelude.{ℕ, List, [], ◌∷◌, Some, None, Option, MatchOption}
 use Rattle.std.specs.List.{AllByRecursion as All}
 use Rattle.windows.specs.Windows.{Assigned, NoneOverfull, FirstOverfull}
-use Rattle.schedule.specs.declared.Timing.{Timing}
 use Rattle.schedule.specs.declared.Work.{Work}
 use Rattle.schedule.specs.Orders.{charged}
 

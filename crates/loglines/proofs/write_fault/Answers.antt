@@ -1,4 +1,4 @@
-use Rattle.std.proofs.Common.{◌≡◌, ℕ, ◌+◌, List, [], ◌∷◌, ◌++◌, decimal, append_assoc, append-nil, arith, length-set, rules}
+use Rattle.std.proofs.Common.{◌≡◌, ℕ, List, [], ◌∷◌, ◌++◌, decimal, append_assoc, append-nil, arith, length-set, rules}
 use Rattle.loglines.proofs.Memory.{wrote_byte, wrote_then, wrote_same}
 use Rattle.loglines.proofs.Numbers.{length_u8, length_u64}
 use Rattle.loglines.proofs.write_fault.Goals as goal

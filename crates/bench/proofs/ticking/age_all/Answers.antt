@@ -1,4 +1,4 @@
-use Rattle.std.proofs.Common.{◌≡◌, true, get_or, set, None, sym, ap, ◌∙◌, subst, arith}
+use Rattle.std.proofs.Common.{◌≡◌, true, set, None, sym, ap, ◌∙◌, subst, arith}
 use Rattle.history.specs.Calls.{changed, aged}
 use Rattle.bench.specs.Quiet.{if_some, later}
 use Rattle.bench.specs.Sound.{every, lane_ok}

@@ -1,5 +1,4 @@
-use Rattle.std.proofs.Common.{◌≡◌, ◌+◌, ◌-◌, ◌*◌, ◌<◌, ◌≤◌, length, refl, arith, rules}
-use Rattle.std.proofs.lemmas.Bool.Decides.{nat_tests}
+use Rattle.std.proofs.Common.{◌+◌, ◌-◌, ◌*◌, refl, arith, rules}
 use Rattle.refusal.proofs.Numbers.{refusal_above}
 use Rattle.history.specs.Bench.{buffer_of}
 use Rattle.bench.proofs.Ticks.{buffer_small, live_small, never_others, read_granted, read_refused}

@@ -1,5 +1,4 @@
-use Rattle.std.proofs.Common.{[], refl, subst, arith}
-use Rattle.history.specs.Requests.{Requested}
+use Rattle.std.proofs.Common.{[], refl}
 use Rattle.history.proofs.Requests.{requested_none, requested_past}
 use Rattle.bench.specs.Ticks.{deadline_of, head_of}
 use Rattle.bench.proofs.Ticks.{ok_at}

@@ -1,4 +1,4 @@
-use Rattle.std.proofs.Common.{◌≡◌, ◌+◌, ◌-◌, ◌/◌, ◌++◌, string_bytes}
+use Rattle.std.proofs.Common.{◌≡◌, ◌-◌, ◌++◌, string_bytes}
 use Rattle.std.specs.List.{range_with_len}
 use Rattle.charts.specs.Axis.{ticks_by}
 use Rattle.charts.proofs.axis.add_ticks.Given as goal

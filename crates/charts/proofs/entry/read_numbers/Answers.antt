@@ -1,4 +1,4 @@
-use Rattle.std.proofs.Common.{ℕ, ◌≤◌, sym, ap, ◌∙◌, arith}
+use Rattle.std.proofs.Common.{◌≤◌, sym, ap, ◌∙◌, arith}
 use Rattle.cues.specs.Reading.{end}
 use Rattle.charts.specs.Entries.{wanted, made_entry}
 use Rattle.charts.proofs.Entries.{filled_some}

@@ -1,4 +1,4 @@
-use Rattle.std.proofs.Common.{◌≡◌, ◌-◌, ◌≤◌, length}
+use Rattle.std.proofs.Common.{◌≡◌, ◌-◌, length}
 use Rattle.cues.specs.Reading.{left, end}
 use Rattle.charts.specs.Entries.{filled, zeros}
 use Rattle.charts.proofs.entry.read_numbers.Given as goal

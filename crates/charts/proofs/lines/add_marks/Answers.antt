@@ -1,4 +1,4 @@
-use Rattle.std.proofs.Common.{◌+◌, ◌++◌, drop, string_bytes, ap, ◌∙◌}
+use Rattle.std.proofs.Common.{◌+◌, ◌++◌, drop, string_bytes, ◌∙◌}
 use Rattle.charts.specs.Lines.{marks_lines}
 use Rattle.charts.proofs.Marked.{line_marked, line_unmarked, lines_end}
 use Rattle.charts.proofs.lines.add_marks.Goals as goal

@@ -1,7 +1,6 @@
-use Rattle.std.proofs.Common.{◌+◌, Bool, List, [], ◌∷◌, ◌++◌, length, drop, Ok, Err, vec_items, sym, refl, ap, ◌∙◌, arith, rules}
+use Rattle.std.proofs.Common.{◌+◌, length, drop, Ok, Err, vec_items, sym, refl, ◌∙◌, arith, rules}
 use Rattle.cues.specs.Words.{lines}
-use Rattle.charts.specs.Logs.{log_read, lines_read}
-use Rattle.charts.specs.declared.entry.Entry.{Entry}
+use Rattle.charts.specs.Logs.{lines_read}
 use Rattle.charts.proofs.Logs.{with_front, turn_within, turn_taken, turn_refused, turn_none}
 use Rattle.charts.proofs.Whole.{logs_read_back}
 use Rattle.charts.proofs.log.read_log.Goals as goal

@@ -1,4 +1,4 @@
-use Rattle.std.proofs.Common.{◌≡◌, ◌+◌, ◌-◌, ◌*◌, ◌^◌, ◌<◌, ◌≤◌, get_or, sym, ap, ◌∙◌, pow-suc, add-one, arith, lit<, take_all, below_more}
+use Rattle.std.proofs.Common.{◌≡◌, ◌+◌, ◌-◌, ◌*◌, ◌^◌, ◌≤◌, get_or, sym, ap, ◌∙◌, pow-suc, add-one, arith, lit<, take_all, below_more}
 use native.Mathlib.Nat.{pow-le-pow_right}
 use mir.Facts.{Fits-below}
 use Rattle.std.proofs.lemmas.List.Sums.{fold_more}

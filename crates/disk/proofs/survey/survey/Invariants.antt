@@ -1,5 +1,4 @@
-use Rattle.std.proofs.Common.{◌≡◌, ◌++◌, map, length, take, drop, vec_items}
-use Rattle.std.specs.List.{range_with_len}
+use Rattle.std.proofs.Common.{vec_items}
 use Rattle.disk.proofs.Surveys.{SurveyedTo}
 use Rattle.disk.proofs.survey.survey.Given as goal
 

@@ -1,5 +1,4 @@
 use Rattle.std.proofs.Common.{vec_items}
-use Rattle.refusal.specs.Told.{told}
 use Rattle.history.specs.Bench.{World}
 use Rattle.bench.specs.Model.{world}
 use Rattle.bench.specs.Ticks.{no_fault, fault_in}

@@ -1,4 +1,4 @@
-use Rattle.std.proofs.Common.{◌≡◌, ◌-◌, sym, ap, ◌∙◌, subst, div-le_self, arith}
+use Rattle.std.proofs.Common.{◌-◌, sym, ap, ◌∙◌, subst, div-le_self, arith}
 use Rattle.schedule.specs.Rests.{shortened}
 use Rattle.schedule.specs.Scan.{CutAt}
 use Rattle.schedule.proofs.Cutting.{cut_at}

@@ -1,5 +1,5 @@
 use Rattle.std.proofs.Common.{refl, arith}
-use Rattle.schedule.proofs.Scanning.{scan_starts, scan_goes, scan_ends, scan_again, left_w, few_x, some_x, low_within}
+use Rattle.schedule.proofs.Scanning.{scan_starts, scan_goes, scan_ends, scan_again, left_w, few_x, some_x}
 use Rattle.schedule.proofs.scan.last_start.Goals as goal
 
 pub loop-slot-init : goal.loop-slot-init

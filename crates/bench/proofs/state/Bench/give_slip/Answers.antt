@@ -1,4 +1,4 @@
-use Rattle.std.proofs.Common.{◌≡◌, ℕ, List, sym, refl, ap, arith}
+use Rattle.std.proofs.Common.{ℕ, List, sym, refl, ap, arith}
 use Rattle.std.proofs.lemmas.Bool.Decides.{nat_tests}
 use Rattle.bench.specs.Model.{world, named}
 use Rattle.bench.specs.Sound.{lease_ok}

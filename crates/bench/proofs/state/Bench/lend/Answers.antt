@@ -1,14 +1,14 @@
-use Rattle.std.proofs.Common.{◌≡◌, ℕ, true, false, leb, List, set, Some, sym, refl, ap, ◌∙◌, subst, arith}
+use Rattle.std.proofs.Common.{◌≡◌, ℕ, true, List, sym, refl, ap, ◌∙◌, subst, arith}
 use Rattle.std.proofs.lemmas.Bool.{lt-ltb}
 use Rattle.std.proofs.lemmas.Bool.Decides.{nat_tests}
 use Rattle.history.specs.Bench.{lane_at}
-use Rattle.history.specs.Calls.{vacant, with_leases, honours}
+use Rattle.history.specs.Calls.{with_leases, honours}
 use Rattle.bench.specs.Model.{world}
 use Rattle.bench.specs.Quiet.{rests}
-use Rattle.bench.specs.Sound.{lane_ok, live_ok, lease_ok}
+use Rattle.bench.specs.Sound.{lane_ok, lease_ok}
 use Rattle.bench.proofs.Rests.{every_true, rests_zero, all_later_lend}
 use Rattle.bench.proofs.Sound.{every_at, every_set_some, live_kept, there_live, buffer_below}
-use Rattle.bench.proofs.Lends.{off_limits, empty, gone, take_off_limits, take_empty, take_gone, take_out, take_lent, lent_honoured}
+use Rattle.bench.proofs.Lends.{take_off_limits, take_empty, take_gone, take_out, take_lent, lent_honoured}
 use Rattle.bench.proofs.state.Bench.lend.Goals as goal
 
 pub returns-then-head-gt7 : goal.returns-then-head-gt7

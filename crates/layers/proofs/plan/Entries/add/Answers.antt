@@ -1,8 +1,7 @@
-use Rattle.std.proofs.Common.{◌≡◌, ◌+◌, ◌-◌, ◌≤◌, [], ◌∷◌, ◌++◌, length, take, set, sym, ap, ◌∙◌, arith, rules}
+use Rattle.std.proofs.Common.{◌≡◌, ◌+◌, ◌-◌, ◌≤◌, [], ◌∷◌, ◌++◌, length, take, set, ap, ◌∙◌, arith, rules}
 use Rattle.std.proofs.lemmas.List.{take_more_set, length-take-le}
 use Rattle.std.proofs.lemmas.Bool.Decides.{nat_tests}
-use Rattle.layers.specs.Entries.{listed, planned, place_of, new_entry, left_coming, planned_times}
-use Rattle.layers.specs.declared.plan.Left.{Left}
+use Rattle.layers.specs.Entries.{listed, planned, place_of, new_entry}
 use Rattle.layers.proofs.Entries.{planned_push}
 use Rattle.layers.proofs.plan.Entries.add.Goals as goal
 use Rattle.layers.proofs.plan.Entries.add.Goals.{then-count-eq0, else-count-eq0}
