@@ -1,6 +1,6 @@
 -- What admission does to a bench.
 use Rattle.std.proofs.Common.{◌≡◌, ℕ, zero, suc, ◌+◌, ◌-◌, ◌<◌, ◌≤◌, Bool, true, false, cond, not, ◌||◌, eqb, ltb, List, [], ◌∷◌, ◌++◌, length, get_or, take, drop, set, replicate, is_some, Some, None, Ok, filter, Option, sym, refl, ap, ◌∙◌, subst, arith}
-use Rattle.std.specs.List.{range_with_len, AllByRecursion as All}
+use Rattle.std.specs.List.{range_with_len, AllByRecursion}
 use Rattle.std.proofs.lemmas.List.{append-nil, append_assoc, length-take-le, length-append, length-take, take_all, take-append-le, set_at, take_more, take_more_set, at_drop_more, at_drop_all}
 use Rattle.std.proofs.lemmas.Bool.{lt-ltb, le-ltb, and_from}
 use Rattle.std.proofs.lemmas.Bool.Decides.{nat_tests}
@@ -149,11 +149,11 @@ live_proper l e = record {
 lane_proper : (l : Lane) → lane_ok l ≡ true → is_live l.stage ≡ true → Proper (work l)
 lane_proper l e p = live_proper l (grind (arith, nat_tests))
 
-proper_more : (l : Lane) (ws : List Work) → lane_ok l ≡ true → All Proper ws → (b : Bool) → is_live l.stage ≡ b → All Proper (cond b (work l ∷ ws) ws)
+proper_more : (l : Lane) (ws : List Work) → lane_ok l ≡ true → AllByRecursion Proper ws → (b : Bool) → is_live l.stage ≡ b → AllByRecursion Proper (cond b (work l ∷ ws) ws)
 proper_more l ws e q true p = (lane_proper l e p, q)
 proper_more l ws e q false p = q
 
-works_proper : (ls : List (Option Lane)) → every lane_ok ls ≡ true → All Proper (works ls)
+works_proper : (ls : List (Option Lane)) → every lane_ok ls ≡ true → AllByRecursion Proper (works ls)
 works_proper [] e = tt
 works_proper (None ∷ ls) e = works_proper ls e
 works_proper (Some l ∷ ls) e = proper_more l (works ls) (grind (arith, nat_tests)) (works_proper ls (grind (arith, nat_tests))) (is_live l.stage) refl

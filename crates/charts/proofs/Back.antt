@@ -1,6 +1,6 @@
 -- The line of a log reads as what it tells.
 use Rattle.std.proofs.Common.{◌≡◌, ℕ, ◌+◌, ◌^◌, ◌<◌, ◌≤◌, Bool, true, false, cond, ◌&&◌, ◌||◌, eqb, ltb, leb, ◌⊎◌, List, [], ◌∷◌, ◌++◌, map, length, get_or, set, Ok, Err, codes, decimal, Result, sym, refl, ap, ◌∙◌, subst, inl, inr, ⊎_elim, append_assoc, append-nil, arith, lit<}
-use Rattle.std.specs.List.{AllByRecursion as All}
+use Rattle.std.specs.List.{AllByRecursion}
 use Rattle.std.specs.Char.{is_ascii_digit}
 use Rattle.std.specs.Str.{all_ascii_digits}
 use Rattle.std.proofs.lemmas.Fmt.{digits_decimal, decimal_nonempty}
@@ -23,7 +23,7 @@ use Rattle.charts.specs.declared.entry.Kind.{Kind}
 use Rattle.charts.specs.declared.entry.Kind.TheVariants as kind
 
 abbrev Small : List ℕ → Type 0
-Small ns = All (λ n. n ≤ 9999999) ns
+Small ns = AllByRecursion (λ n. n ≤ 9999999) ns
 
 -- a word and numbers after it
 words_joined : (w : List ℕ) (ns : List ℕ) → Unspaced w → Small ns → words (w ++ spaced ns) ≡ w ∷ map decimal ns

@@ -1,6 +1,6 @@
 -- The log of a job reads as what its lines tell.
 use Rattle.std.proofs.Common.{◌≡◌, ℕ, ◌+◌, ◌≤◌, Bool, false, eqb, List, [], ◌∷◌, ◌++◌, map, Ok, decimal, Result, sym, refl, ap, ◌∙◌, append_assoc, append-nil, lit<}
-use Rattle.std.specs.List.{flat_map, AllByRecursion as All}
+use Rattle.std.specs.List.{flat_map, AllByRecursion}
 use Rattle.std.proofs.lemmas.Bool.{cond-false, true≢false}
 use Rattle.cues.specs.Words.{lines, cut}
 use Rattle.cues.proofs.RoundTrip.{Lacks, cut_lacking, lacks_decimal}
@@ -19,11 +19,11 @@ lacks_both : (xs ys : List ℕ) → Lacks 10 xs → Lacks 10 ys → Lacks 10 (xs
 lacks_both [] ys a b = b
 lacks_both (x ∷ xs) ys a b = (a.0, lacks_both xs ys a.1 b)
 
-lacks_spaced : (ns : List ℕ) → All (λ n. n ≤ 9999999) ns → Lacks 10 (spaced ns)
+lacks_spaced : (ns : List ℕ) → AllByRecursion (λ n. n ≤ 9999999) ns → Lacks 10 (spaced ns)
 lacks_spaced [] a = tt
 lacks_spaced (n ∷ ns) a = (refl, lacks_both (decimal n) (spaced ns) (lacks_decimal n a.0 10 (lit< tt)) (lacks_spaced ns a.1))
 
-lacks_lettered : (s c : ℕ) (ns : List ℕ) → s ≤ 9999999 → All (λ n. n ≤ 9999999) ns → eqb c 10 ≡ false → Lacks 10 (opening s c ++ spaced ns)
+lacks_lettered : (s c : ℕ) (ns : List ℕ) → s ≤ 9999999 → AllByRecursion (λ n. n ≤ 9999999) ns → eqb c 10 ≡ false → Lacks 10 (opening s c ++ spaced ns)
 lacks_lettered s c ns small a u = lacks_both (opening s c) (spaced ns) (lacks_both (decimal s) (32 ∷ c ∷ []) (lacks_decimal s small 10 (lit< tt)) (refl, (u, tt))) (lacks_spaced ns a)
 
 -- no line has byte 10 but at its end
@@ -61,7 +61,7 @@ running_placed (Done slot attempts failed) n r = refl
 running_placed (Refused number ln place) n r = absurd (true≢false r)
 
 module _ (slot attempts failed : ℕ) (last : Short (line.Done slot attempts failed)) where
-  runs_from : (n : ℕ) (ls : List LogLine) → All (λ l. Running l × Short l) ls → lines_read n false (lines (flat_map log_line (ls ++ line.Done slot attempts failed ∷ []))) ≡ Ok (map told_entry (ls ++ line.Done slot attempts failed ∷ []))
+  runs_from : (n : ℕ) (ls : List LogLine) → AllByRecursion (λ l. Running l × Short l) ls → lines_read n false (lines (flat_map log_line (ls ++ line.Done slot attempts failed ∷ []))) ≡ Ok (map told_entry (ls ++ line.Done slot attempts failed ∷ []))
   unfolding cut lines_read
   runs_from n [] a =
       ap (lines_read n false) (lines_more (line.Done slot attempts failed) [] last) ∙ line_taken (line.Done slot attempts failed) n [] last refl

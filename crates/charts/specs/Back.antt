@@ -1,6 +1,6 @@
 -- What a log tells of its lines as they were written: reading them gives it back.
 use Rattle.std.specs.Prelude.{◌≡◌, ℕ, ◌≤◌, false, List, [], ◌∷◌, ◌++◌, map, Ok, slice_index}
-use Rattle.std.specs.List.{flat_map, AllByRecursion as All}
+use Rattle.std.specs.List.{flat_map, AllByRecursion}
 use Rattle.refusal.specs.Told.{answer_number}
 use Rattle.loglines.specs.Text.{order_told, take_told, log_text, log_line}
 use Rattle.loglines.specs.declared.LogLine.{LogLine}
@@ -36,7 +36,7 @@ line_numbers (line.BadList number ln place) = number ∷ ln ∷ place ∷ []
 
 -- a line whose numbers have at most 7 digits
 abbrev pub Short : LogLine → Type 0
-Short l = All (λ n. n ≤ 9999999) (line_numbers l)
+Short l = AllByRecursion (λ n. n ≤ 9999999) (line_numbers l)
 
 -- such a line, once written, reads as what it tells
 abbrev pub WrittenLinesReadBack : Type 0
@@ -50,7 +50,7 @@ Running l = is_end (told_entry l) ≡ false
 -- that did not run
 abbrev pub RunsReadBack : Type 0
 RunsReadBack =
-    (ls : List LogLine) (slot attempts failed : ℕ) → All (λ l. Running l × Short l) ls → Short (line.Done slot attempts failed)
+    (ls : List LogLine) (slot attempts failed : ℕ) → AllByRecursion (λ l. Running l × Short l) ls → Short (line.Done slot attempts failed)
     → log_read (flat_map log_line (ls ++ line.Done slot attempts failed ∷ [])) ≡ Ok (map told_entry (ls ++ line.Done slot attempts failed ∷ []))
 
 abbrev pub RefusedListsReadBack : Type 0

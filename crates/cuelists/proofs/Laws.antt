@@ -1,6 +1,6 @@
 -- Well-formed lists are read.
 use Rattle.std.proofs.Common.{◌≡◌, ℕ, suc, ◌+◌, ◌≤◌, Bool, true, false, List, [], ◌∷◌, ◌++◌, map, length, Ok, Result, sym, refl, ap, ◌∙◌, subst, append_assoc, add-zero, arith}
-use Rattle.std.specs.List.{AllByRecursion as All}
+use Rattle.std.specs.List.{AllByRecursion}
 use Rattle.std.proofs.lemmas.Bool.{cond-true, cond-false, lt-ltb, le-ltb, eq-eqb}
 use Rattle.std.proofs.lemmas.Bool.Decides.{nat_tests}
 use Rattle.layers.specs.Entries.{add_number, add_after}
@@ -30,7 +30,7 @@ line_says room line s t cue cues w e =
 any_begun : (b : Bool) (c : Called) → Writable true (called_cue c) → Writable b (called_cue c)
 any_begun b c w = w
 
-calls_whole : (room line : ℕ) (s : Sofar) (cs : List Called) → All (λ c. Writable true (called_cue c)) cs → length s.calls + length cs ≤ room
+calls_whole : (room line : ℕ) (s : Sofar) (cs : List Called) → AllByRecursion (λ c. Writable true (called_cue c)) cs → length s.calls + length cs ≤ room
     → ReadWhole (lines_read room line s (lines (list_text (map called_cue cs)))) s.entries (waiting line s.calls cs)
 unfolding lines_read cut
 calls_whole room line s [] w h = record { no_fault = refl; entries = refl; calls = refl }
@@ -47,7 +47,7 @@ writable_plan es p e =
     let count : p.count ≤ 200 = grind (arith, nat_tests) in
     (refl, (omega arith, (omega arith, tt)))
 
-plans_whole : (room line : ℕ) (es : List Entry) (ds : List Due) (ps : List Planned) (cs : List Called) → Accepted es ps → All (λ c. Writable true (called_cue c)) cs → length ds + length cs ≤ room
+plans_whole : (room line : ℕ) (es : List Entry) (ds : List Due) (ps : List Planned) (cs : List Called) → Accepted es ps → AllByRecursion (λ c. Writable true (called_cue c)) cs → length ds + length cs ≤ room
     → ReadWhole (lines_read room line (sofar es ds false) (lines (list_text (map planned_cue ps ++ map called_cue cs)))) (entries_after es ps) (waiting (line + length ps) ds cs)
 plans_whole room line es ds [] cs a w h =
     subst (λ (n : ℕ). ReadWhole (lines_read room line (sofar es ds false) (lines (list_text (map called_cue cs)))) es (waiting n ds cs)) (sym (add-zero line)) (calls_whole room line (sofar es ds false) cs w h)

@@ -1,6 +1,6 @@
 -- A list of well-formed lines, in the right order and number, is always read.
 use Rattle.std.specs.Prelude.{◌≡◌, ℕ, suc, ◌+◌, ◌≤◌, true, List, [], ◌∷◌, ◌++◌, map, length, None}
-use Rattle.std.specs.List.{flat_map, AllByRecursion as All}
+use Rattle.std.specs.List.{flat_map, AllByRecursion}
 use Rattle.layers.specs.Entries.{add_number, add_after}
 use Rattle.layers.specs.declared.plan.Entry.{Entry}
 use Rattle.cues.specs.Text.{cue_line, Writable}
@@ -53,6 +53,6 @@ pub record ReadWhole (o : Outcome) (es : List Entry) (ds : List Due) : Type 0 wh
 abbrev pub WellFormedListsAreRead : Type 0
 WellFormedListsAreRead =
     (room : ℕ) (es : List Entry) (ds : List Due) (ps : List Planned) (cs : List Called)
-    → Accepted es ps → All (λ c. Writable true (called_cue c)) cs → length ds + length cs ≤ most room
+    → Accepted es ps → AllByRecursion (λ c. Writable true (called_cue c)) cs → length ds + length cs ≤ most room
     → length (list_text (map planned_cue ps ++ map called_cue cs)) ≤ 65536
     → ReadWhole (list_read room es ds (list_text (map planned_cue ps ++ map called_cue cs))) (entries_after es ps) (waiting (suc (length ps)) ds cs)

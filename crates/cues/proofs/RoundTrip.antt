@@ -1,7 +1,7 @@
 -- The line of a cue reads as the cue.
 use Rattle.std.proofs.Common.{◌≡◌, ℕ, ◌+◌, ◌-◌, ◌*◌, ◌^◌, ◌<◌, ◌≤◌, Bool, true, false, eqb, ◌⊎◌, List, [], ◌∷◌, ◌++◌, map, length, get_or, Ok, decimal, fold, refl, ap, ◌∙◌, inl, inr, ⊎_elim, arith, lit<}
 use Rattle.std.specs.Char.{is_ascii_digit}
-use Rattle.std.specs.List.{AllByRecursion as All}
+use Rattle.std.specs.List.{AllByRecursion}
 use Rattle.std.specs.Str.{all_ascii_digits}
 use Rattle.std.proofs.lemmas.Fmt.{digits_decimal, digits_value-decimal, decimal_nonempty, decimal_digit, length-decimal-le, first_decimal}
 use Rattle.std.proofs.lemmas.Str.Parse.{IsNumeralModel, numerals_by_fold, tells_all_ascii_digits}
@@ -17,7 +17,7 @@ use Rattle.cues.proofs.Words.{digit_range, number_true}
 
 -- no byte of w is m
 abbrev pub Lacks : ℕ → List ℕ → Type 0
-Lacks m w = All (λ c. eqb c m ≡ false) w
+Lacks m w = AllByRecursion (λ c. eqb c m ≡ false) w
 
 abbrev pub Unspaced : List ℕ → Type 0
 Unspaced w = Lacks 32 w
@@ -32,7 +32,7 @@ unfolding cut
 words_one [] u = refl
 words_one (c ∷ cs) u = cond-false _ _ _ u.0 ∙ ap (onto c) (words_one cs u.1)
 
-words_spaced : (w : List ℕ) (ws : List (List ℕ)) → Unspaced w → All Unspaced ws → words (spaced (w ∷ ws)) ≡ w ∷ ws
+words_spaced : (w : List ℕ) (ws : List (List ℕ)) → Unspaced w → AllByRecursion Unspaced ws → words (spaced (w ∷ ws)) ≡ w ∷ ws
 words_spaced w [] u us = words_one w u
 words_spaced w (v ∷ ws) u us = cut_lacking 32 ([] ∷ []) w (spaced (v ∷ ws)) u ∙ ap (λ (l : List (List ℕ)). w ∷ l) (words_spaced v ws us.0 us.1)
 
@@ -68,22 +68,22 @@ module _ (n : ℕ) (small : n ≤ 9999999) where
       let below : n < 2 ^ 64 = omega arith in
       cond-true _ _ _ (number_true (decimal n) some short no_leading_zero (digits_decimal own n below)) ∙ ap number (digits_value-decimal own n below)
 
-lacks_all : (m : ℕ) → m < 48 → (ns : List ℕ) → All (λ n. n ≤ 9999999) ns → All (Lacks m) (map decimal ns)
+lacks_all : (m : ℕ) → m < 48 → (ns : List ℕ) → AllByRecursion (λ n. n ≤ 9999999) ns → AllByRecursion (Lacks m) (map decimal ns)
 lacks_all m h [] a = tt
 lacks_all m h (n ∷ ns) a = (lacks_decimal n a.0 m h, lacks_all m h ns a.1)
 
-numbers_decimal : (ns : List ℕ) (end at : ℕ) → All (λ n. n ≤ 9999999) ns → numbers (length ns) end (placed at (map decimal ns)) ≡ Ok ns
+numbers_decimal : (ns : List ℕ) (end at : ℕ) → AllByRecursion (λ n. n ≤ 9999999) ns → numbers (length ns) end (placed at (map decimal ns)) ≡ Ok ns
 numbers_decimal [] end at a = refl
 numbers_decimal (n ∷ ns) end at a =
     ap (λ (w : Word). then_number w at (numbers (length ns) end (placed (at + length (decimal n) + 1) (map decimal ns)))) (word_decimal n a.0)
     ∙ ap (then_number (number n) at) (numbers_decimal ns end (at + length (decimal n) + 1) a.1)
 
 -- a line of words that have no space is read by its form
-line_form : (begun : Bool) (w : List ℕ) (ws : List (List ℕ)) → Unspaced w → All Unspaced ws → line_cue begun (spaced (w ∷ ws)) ≡ form (length (spaced (w ∷ ws))) begun (placed 0 (w ∷ ws))
+line_form : (begun : Bool) (w : List ℕ) (ws : List (List ℕ)) → Unspaced w → AllByRecursion Unspaced ws → line_cue begun (spaced (w ∷ ws)) ≡ form (length (spaced (w ∷ ws))) begun (placed 0 (w ∷ ws))
 line_form begun w ws u us = ap (λ (l : List (List ℕ)). form (length (spaced (w ∷ ws))) begun (placed 0 l)) (words_spaced w ws u us)
 
 -- a call's line, once its letter is seen to ask for the numbers that it has
-call_line : (begun : Bool) (s c : ℕ) (ns : List ℕ) (f : List ℕ → Cue) → s ≤ 1000000 → All (λ n. n ≤ 9999999) ns → eqb c 32 ≡ false
+call_line : (begun : Bool) (s c : ℕ) (ns : List ℕ) (f : List ℕ → Cue) → s ≤ 1000000 → AllByRecursion (λ n. n ≤ 9999999) ns → eqb c 32 ≡ false
     → ((end at : ℕ) (ws : List Placed) → after_slot end s (record { place = at; bytes = c ∷ [] } ∷ ws) ≡ made_cue f (numbers (length ns) end ws))
     → line_cue begun (spaced (decimal s ∷ (c ∷ []) ∷ map decimal ns)) ≡ Ok (f ns)
 call_line begun s c ns f b a u asks =
@@ -108,7 +108,7 @@ lacks_append : (m : ℕ) (xs ys : List ℕ) → Lacks m xs → Lacks m ys → La
 lacks_append m [] ys a b = b
 lacks_append m (x ∷ xs) ys a b = (a.0, lacks_append m xs ys a.1 b)
 
-lacks_spaced : (ws : List (List ℕ)) → All (Lacks 10) ws → Lacks 10 (spaced ws)
+lacks_spaced : (ws : List (List ℕ)) → AllByRecursion (Lacks 10) ws → Lacks 10 (spaced ws)
 lacks_spaced [] a = tt
 lacks_spaced (w ∷ []) a = a.0
 lacks_spaced (w ∷ v ∷ ws) a = lacks_append 10 w (32 ∷ spaced (v ∷ ws)) a.0 (refl, lacks_spaced (v ∷ ws) a.1)

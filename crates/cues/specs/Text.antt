@@ -1,6 +1,6 @@
 -- A cue as a line: its words with one space between them, a number by its decimal digits.
 use Rattle.std.specs.Prelude.{◌≡◌, ℕ, ◌≤◌, Bool, false, List, [], ◌∷◌, ◌++◌, map, decimal}
-use Rattle.std.specs.List.{AllByRecursion as All}
+use Rattle.std.specs.List.{AllByRecursion}
 use Rattle.cues.specs.declared.Call.{Call}
 use Rattle.cues.specs.declared.Call.TheVariants.{Order, Take, Give, Close}
 use Rattle.cues.specs.declared.Cue.{Cue}
@@ -34,5 +34,5 @@ cue_line cue = spaced (cue_words cue)
 -- a cue that a line may say: its numbers have at most 7 digits, and its slot is at most 1,000,000; no plan once a call
 -- has come
 abbrev pub Writable : Bool → Cue → Type 0
-Writable begun (Plan block count) = (begun ≡ false) × All (λ n. n ≤ 9999999) (block ∷ count ∷ [])
-Writable begun (At slot call) = (slot ≤ 1000000) × All (λ n. n ≤ 9999999) (call_numbers call)
+Writable begun (Plan block count) = (begun ≡ false) × AllByRecursion (λ n. n ≤ 9999999) (block ∷ count ∷ [])
+Writable begun (At slot call) = (slot ≤ 1000000) × AllByRecursion (λ n. n ≤ 9999999) (call_numbers call)

@@ -1,6 +1,6 @@
 -- What a survey has told and left after its first blocks.
 use Rattle.std.proofs.Common.{◌≡◌, ℕ, zero, suc, ◌+◌, ◌-◌, ◌<◌, ◌≤◌, true, false, cond, not, List, [], ◌∷◌, ◌++◌, map, length, take, drop, set, filter, refl, ap, ◌∙◌, append-nil, arith}
-use Rattle.std.specs.List.{range_with_len, AllByRecursion as All}
+use Rattle.std.specs.List.{range_with_len, AllByRecursion}
 use Rattle.refusal.specs.declared.Fault.{Fault}
 use Rattle.std.proofs.lemmas.List.Edits.{map_over_more}
 use Rattle.std.proofs.lemmas.List.Elements.{filter-append}
@@ -25,7 +25,7 @@ granted_attempt m b mem mem' m' h l r =
 -- the first i blocks of the disk m are surveyed
 pub record SurveyedTo (F : ℕ → Fault → Type 0) (i : ℕ) (m : List Block) (us : List Unread) (m' : List Block) : Type 0 where
   pub blocks : map block_of us ≡ filter (fails_at m) (range_with_len 0 i)
-  pub faults : All (ToldTruly F) us
+  pub faults : AllByRecursion (ToldTruly F) us
   pub after : m' ≡ map worn (take i m) ++ drop i m
 
 pub surveyed_none : (F : ℕ → Fault → Type 0) (m : List Block) (us : List Unread) → us ≡ [] → SurveyedTo F 0 m us m
@@ -45,7 +45,7 @@ module _ (F : ℕ → Fault → Type 0) (i : ℕ) (m : List Block) (us : List Un
       let l : length (map worn (take i m)) ≡ i = simp (length-map, length-take) (omega arith) in
       ap (λ d. block_at d i) (s.after ∙ ap (λ xs. map worn (take i m) ++ xs) (drop_more m i no_block h)) ∙ get_or_at (map worn (take i m)) (block_at m i) (drop (i + 1) m) no_block i l
 
-  pub surveyed_more : (us' : List Unread) (m'' : List Block) → m'' ≡ set m' i (worn (block_at m' i)) → map block_of us' ≡ cond (fails_at m' i) (map block_of us ++ i ∷ []) (map block_of us) → All (ToldTruly F) us' → SurveyedTo F (i + 1) m us' m''
+  pub surveyed_more : (us' : List Unread) (m'' : List Block) → m'' ≡ set m' i (worn (block_at m' i)) → map block_of us' ≡ cond (fails_at m' i) (map block_of us ++ i ∷ []) (map block_of us) → AllByRecursion (ToldTruly F) us' → SurveyedTo F (i + 1) m us' m''
   surveyed_more us' m'' e u t =
       let n = surveyed_next in
       let k = ap (filter (fails_at m)) (counting_more 0 i i (omega arith)) ∙ filter-append (fails_at m) (range_with_len 0 i) (i ∷ []) in

@@ -1,6 +1,6 @@
 -- What a survey of a disk tells, and what it leaves.
 use Rattle.std.specs.Prelude.{◌≡◌, ℕ, Bool, not, List, map, length, filter}
-use Rattle.std.specs.List.{range_with_len, AllByRecursion as All}
+use Rattle.std.specs.List.{range_with_len, AllByRecursion}
 use Rattle.refusal.specs.declared.Fault.{Fault}
 use Rattle.refusal.specs.declared.FaultKind.TheVariants.{ReadFailed}
 use Rattle.disk.specs.Meaning.{Block, block_at, none_coming, worn}
@@ -22,6 +22,6 @@ pub record Surveyed (F : ℕ → Fault → Type 0) (m : List Block) (us : List U
   -- just the blocks with failures to come did not read
   pub blocks : map block_of us ≡ filter (fails_at m) (range_with_len 0 (length m))
   -- each with a fault that the disk told
-  pub faults : All (ToldTruly F) us
+  pub faults : AllByRecursion (ToldTruly F) us
   -- and each has used a failure up
   pub after : m' ≡ map worn m

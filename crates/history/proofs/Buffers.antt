@@ -1,6 +1,6 @@
 -- The pool's buffers, and which of them are free.
 use Rattle.std.proofs.Common.{◌≡◌, ℕ, zero, suc, ◌+◌, ◌*◌, ◌/◌, ◌%◌, ◌<◌, ◌≤◌, Bool, true, false, not, ◌&&◌, eqb, List, [], ◌∷◌, ◌++◌, length, get_or, take, drop, Some, None, filter, Option, refl, ◌∙◌, subst, inl, inr, mul-le-mul_right, add-mul, div-add-mod', arith}
-use Rattle.std.specs.List.{range_with_len, AllByRecursion as All}
+use Rattle.std.specs.List.{range_with_len, AllByRecursion}
 use Rattle.std.proofs.ByRecursion.{All-weaker, All-get_or, all_kept_by, kept_by_passes}
 use Rattle.std.proofs.lemmas.List.{places, same_lists, length-take-le, get_or-take}
 use Rattle.std.proofs.lemmas.Bool.{cond_both, cases_lt, or_parts, or_left, or_right, and_from, not-true, both_ways, eq-eqb, eqb-false}
@@ -65,14 +65,14 @@ has_at [] j e = absurd (omega arith)
 has_at (y ∷ ys) zero e = or_left _ _ (eq-eqb y y refl)
 has_at (y ∷ ys) (suc j) e = or_right _ _ (has_at ys j (omega arith))
 
-counting_from : (a n : ℕ) → All (λ x. (a ≤ x) × (x < a + n)) (range_with_len a n)
+counting_from : (a n : ℕ) → AllByRecursion (λ x. (a ≤ x) × (x < a + n)) (range_with_len a n)
 counting_from a zero = tt
 counting_from a (suc n) = ((omega arith, omega arith), All-weaker _ _ (λ x k. (omega arith, omega arith)) (range_with_len (a + 1) n) (counting_from (a + 1) n))
 
 Rises : List ℕ → Type 0
 Rises xs = (i j : ℕ) → i < j → j < length xs → get_or xs i 0 < get_or xs j 0
 
-rises_more : (a : ℕ) (xs : List ℕ) → All (λ x. a < x) xs → Rises xs → Rises (a ∷ xs)
+rises_more : (a : ℕ) (xs : List ℕ) → AllByRecursion (λ x. a < x) xs → Rises xs → Rises (a ∷ xs)
 unfolding Rises
 rises_more a xs q r i zero up in' = absurd (omega arith)
 rises_more a xs q r zero (suc j) up in' = All-get_or (λ x. a < x) xs j 0 (omega arith) q

@@ -1,6 +1,6 @@
 -- What the lanes of a bench charge, as lanes of windows, and what a change of one lane, or of every lane, does to that.
 use Rattle.std.proofs.Common.{◌≡◌, ℕ, zero, suc, ◌+◌, ◌<◌, ◌≤◌, Bool, true, false, cond, List, [], ◌∷◌, ◌++◌, map, length, get_or, take, drop, set, replicate, Some, None, Option, sym, refl, ap, subst, inl, inr, arith}
-use Rattle.std.specs.List.{AllByRecursion as All}
+use Rattle.std.specs.List.{AllByRecursion}
 use Rattle.std.proofs.lemmas.List.{map-append, set_split}
 use Rattle.std.proofs.lemmas.Bool.{cases_lt}
 use Rattle.windows.specs.Windows.{Window, count, since, NoneOverfull, Rule, idle, Pick}
@@ -119,7 +119,7 @@ serves t i k as' d e lt some rel fresh none =
     (subst (λ xs. Rule t (attempts xs) (attempts (take k as' ++ spend a i ∷ drop (suc k) as'))) (sym s)
     (lane_serve t i (take k as') (drop (suc k) as') a lt some rel fresh (subst (NoneSooner t (a.deadline i)) s none)))
 
-pub waits : (t : ℕ) (as' : List work.Lane) → All (λ a. (j : ℕ) → j < a.blocks → 0 < a.owed j → t < a.release j) as' → Rule t (attempts as') (attempts as')
+pub waits : (t : ℕ) (as' : List work.Lane) → AllByRecursion (λ a. (j : ℕ) → j < a.blocks → 0 < a.owed j → t < a.release j) as' → Rule t (attempts as') (attempts as')
 waits t as' q = idle (all_attempts (λ w. t < w.start) as' q)
 
 pub fits_rule : (t : ℕ) (ws rest : List Window) → Rule t ws rest → NoneOverfull (since t ws) → NoneOverfull (since (suc t) rest)

@@ -1,6 +1,6 @@
 -- A call refuses by the first of its checks that fails, and else gives its result.
 use Rattle.std.proofs.Common.{◌≡◌, ℕ, Bool, true, false, cond, List, [], ◌∷◌, ◌++◌, is_some, Some, None, Option, refl, ◌∙◌, arith}
-use Rattle.std.specs.List.{AllByRecursion as All}
+use Rattle.std.specs.List.{AllByRecursion}
 use Rattle.std.proofs.lemmas.Bool.{cond_both, cond-true, cond-false, both_ways}
 use Rattle.refusal.specs.declared.Fault.{Fault}
 use Rattle.windows.specs.Windows.{tried}
@@ -12,9 +12,9 @@ use Rattle.history.specs.Told.{Call, admits, ticks, takes, gives, gives_slip, cl
 use Rattle.history.specs.Laws.{RefusedAltersNothing, LooksAlterNothing}
 
 abbrev pub Passes : List (Bool × Answer) → Type 0
-Passes cs = All (λ c. c.0 ≡ false) cs
+Passes cs = AllByRecursion (λ c. c.0 ≡ false) cs
 
-pub checked_cases : (P : World × Answer → Type 0) (w : World) (cs : List (Bool × Answer)) (r : World × Answer) → All (λ c. c.0 ≡ true → P (w, c.1)) cs
+pub checked_cases : (P : World × Answer → Type 0) (w : World) (cs : List (Bool × Answer)) (r : World × Answer) → AllByRecursion (λ c. c.0 ≡ true → P (w, c.1)) cs
     → (Passes cs → P r) → P (checked w cs r)
 checked_cases P w [] r p q = q tt
 checked_cases P w (c ∷ cs) r p q = cond_both c.0 (w, c.1) (checked w cs r) P p.0 (λ e. checked_cases P w cs r p.1 (λ es. q (e, es)))
@@ -34,7 +34,7 @@ pub last_decides : (w : World) (cs : List (Bool × Answer)) (c : Bool × Answer)
 last_decides w [] c r q = refl
 last_decides w (x ∷ cs) c r q = cond-false x.0 (w, x.1) (checked w (cs ++ c ∷ []) r) q.0 ∙ last_decides w cs c r q.1
 
-pub all_split : {X : Type 0} (P : X → Type 0) (xs ys : List X) → All P (xs ++ ys) → All P xs × All P ys
+pub all_split : {X : Type 0} (P : X → Type 0) (xs ys : List X) → AllByRecursion P (xs ++ ys) → AllByRecursion P xs × AllByRecursion P ys
 all_split P [] ys q = (tt, q)
 all_split P (x ∷ xs) ys q = let r = all_split P xs ys q.1 in ((q.0, r.0), r.1)
 

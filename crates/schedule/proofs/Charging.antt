@@ -1,6 +1,6 @@
 -- The totals count the charged windows.
 use Rattle.std.proofs.Common.{◌≡◌, ℕ, zero, suc, ◌+◌, ◌-◌, ◌*◌, ◌≤◌, max, cond, ◌&&◌, leb, List, [], ◌∷◌, ◌++◌, map, replicate, refl, ap, ◌∙◌, inl, inr, mul-le-mul_right, add-mul, arith}
-use Rattle.std.specs.List.{AllByRecursion as All}
+use Rattle.std.specs.List.{AllByRecursion}
 use Rattle.std.proofs.lemmas.Bool.{cases_lt}
 use Rattle.windows.specs.Lanes.{window, up_to, attempts}
 use Rattle.windows.specs.Windows.{Window, count, since}
@@ -22,7 +22,7 @@ sound_rest w p =
       each_few = omega (arith, q.spare_most);
     }
 
-pub sound_rests : (ws : List Work) → All Proper ws → All Sound (map rest ws)
+pub sound_rests : (ws : List Work) → AllByRecursion Proper ws → AllByRecursion Sound (map rest ws)
 sound_rests [] q = tt
 sound_rests (w ∷ ws) q = (sound_rest w q.0, sound_rests ws q.1)
 
@@ -65,7 +65,7 @@ count_inside t l h w p (suc j) =
       count_inside t l h w p j,
     )
 
-pub count_charged : (t l h : ℕ) (ws : List Work) → All Proper ws → count l h (charged t ws) ≡ total t l h (map rest ws)
+pub count_charged : (t l h : ℕ) (ws : List Work) → AllByRecursion Proper ws → count l h (charged t ws) ≡ total t l h (map rest ws)
 count_charged t l h [] q = refl
 count_charged t l h (w ∷ ws) q =
     omega (

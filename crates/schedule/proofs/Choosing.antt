@@ -1,6 +1,6 @@
 -- The first released lane in the rule's order is the rule's choice, and what that says of every block that is left.
 use Rattle.std.proofs.Common.{◌≡◌, ℕ, ◌+◌, ◌*◌, ◌/◌, ◌%◌, ◌<◌, ◌≤◌, ◌⊎◌, List, map, length, get_or, ap, ◌∙◌, inl, inr, arith}
-use Rattle.std.specs.List.{AllByRecursion as All}
+use Rattle.std.specs.List.{AllByRecursion}
 use Rattle.std.proofs.ByRecursion.{All-from_get_or, All-get_or, All-weaker}
 use Rattle.std.proofs.lemmas.List.{get_or-map}
 use Rattle.std.proofs.lemmas.Bool.{cases_lt, cases_eq}
@@ -66,19 +66,19 @@ module _ (t : ℕ) (lanes : List Rest) (rs os : List ℕ) (eight : length lanes 
       ];
     }
 
-module _ (t k coming : ℕ) (ws : List Rest) (eight : length ws ≡ 8) (sound : All Sound ws) (c : Chosen t ws k coming) where
+module _ (t k coming : ℕ) (ws : List Rest) (eight : length ws ≡ 8) (sound : AllByRecursion Sound ws) (c : Chosen t ws k coming) where
   abbrev stop : ℕ
   stop = due (get_or ws k blank)
 
   -- a lane, by whether it is released
   each : (P : Rest → Type 0)
-      → ((w : Rest) → Sound w → (ready w ≤ t → stop ≤ due w) → (t < ready w → due w < stop → coming ≤ ready w) → P w) → All P ws
+      → ((w : Rest) → Sound w → (ready w ≤ t → stop ≤ due w) → (t < ready w → due w < stop → coming ≤ ready w) → P w) → AllByRecursion P ws
   each P f = All-from_get_or P ws blank (λ j hi.
       f (get_or ws j blank) (All-get_or Sound ws j blank hi sound)
       (λ e. elim (c.choice.earliest j (omega arith) e) [ inl g ↦ omega arith | inr g ↦ omega (arith, g.0) ])
       (c.later j (omega arith)))
 
-  pub calm : (u : ℕ) → u ≤ coming → All (Calm u stop) ws
+  pub calm : (u : ℕ) → u ≤ coming → AllByRecursion (Calm u stop) ws
   calm u e = each (Calm u stop) (λ w s sooner later j from to rel.
       elim (cases_lt t (ready w)) [
         | inl p ↦ elim (cases_lt (due w) stop) [
@@ -89,7 +89,7 @@ module _ (t k coming : ℕ) (ws : List Rest) (eight : length ws ≡ 8) (sound : 
       ])
 
   -- no block is due before stop, if that comes before the next release
-  none_sooner : stop < coming → All (λ w. (j : ℕ) → w.next ≤ j → j < w.blocks → stop ≤ deadline_of w j) ws
+  none_sooner : stop < coming → AllByRecursion (λ w. (j : ℕ) → w.next ≤ j → j < w.blocks → stop ≤ deadline_of w j) ws
   none_sooner e = each (λ w. (j : ℕ) → w.next ≤ j → j < w.blocks → stop ≤ deadline_of w j) (λ w s sooner later j from to.
       elim (cases_lt t (ready w)) [
         | inl p ↦ elim (cases_lt (due w) stop) [
@@ -104,8 +104,8 @@ module _ (t k coming : ℕ) (ws : List Rest) (eight : length ws ≡ 8) (sound : 
       omega (arith, o.over, o.within, total_none t o.low h ws (All-weaker _ _ (λ w f j from to _. omega (arith, f j from to)) ws (none_sooner e)))
 
 -- until slot u no lane is released
-module _ (t u : ℕ) (ws : List Rest) (sound : All Sound ws) (le : t ≤ u) (quiet : (k : ℕ) → k < length ws → u ≤ ready (get_or ws k blank)) where
-  idle : All (λ w. (j : ℕ) → w.next ≤ j → j < w.blocks → u ≤ release_of w j) ws
+module _ (t u : ℕ) (ws : List Rest) (sound : AllByRecursion Sound ws) (le : t ≤ u) (quiet : (k : ℕ) → k < length ws → u ≤ ready (get_or ws k blank)) where
+  idle : AllByRecursion (λ w. (j : ℕ) → w.next ≤ j → j < w.blocks → u ≤ release_of w j) ws
   idle = All-from_get_or _ ws blank (λ k hi j from to.
       omega (arith, quiet k hi, ready_first (get_or ws k blank) (All-get_or Sound ws k blank hi sound) j from to))
 

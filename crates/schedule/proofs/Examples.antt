@@ -1,6 +1,6 @@
 -- The worked examples, by trying every span.
 use Rattle.std.proofs.Common.{◌≡◌, ℕ, List, [], ◌∷◌, map, Some, None, Option, refl, subst, MatchOption}
-use Rattle.std.specs.List.{AllByRecursion as All}
+use Rattle.std.specs.List.{AllByRecursion}
 use Rattle.windows.specs.Windows.{Window, Assigned, NoneOverfull, FirstOverfull, tried}
 use Rattle.windows.proofs.Find.{decision}
 use Rattle.windows.proofs.Serve.{hall}
@@ -19,7 +19,7 @@ unfolding Told
 both ws None none = (none, hall ws none)
 both ws (Some s) first = (first, λ ss a. pigeonhole ws ss a s.1 (s.0, first.0))
 
-all_tried : (es : List Example) → map (λ e. tried (charged 0 e.lanes)) es ≡ map (λ e. e.span) es → All (λ e. Told (charged 0 e.lanes) e.span) es
+all_tried : (es : List Example) → map (λ e. tried (charged 0 e.lanes)) es ≡ map (λ e. e.span) es → AllByRecursion (λ e. Told (charged 0 e.lanes) e.span) es
 all_tried [] e = tt
 all_tried (x ∷ es) e =
     let ws : List Window = charged 0 x.lanes in

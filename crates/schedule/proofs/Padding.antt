@@ -1,6 +1,6 @@
 -- Lanes with nothing left change no total.
 use Rattle.std.proofs.Common.{◌≡◌, ℕ, zero, suc, ◌+◌, ◌-◌, ◌<◌, List, [], ◌∷◌, ◌++◌, map, length, get_or, take, set, replicate, sym, refl, ap, ◌∙◌, arith}
-use Rattle.std.specs.List.{AllByRecursion as All}
+use Rattle.std.specs.List.{AllByRecursion}
 use Rattle.std.proofs.ByRecursion.{All-append}
 use Rattle.std.proofs.lemmas.List.{take_more, set_at, append_assoc, length-take-le, take_all, length-map, get_or-map}
 use Rattle.schedule.specs.declared.Work.{Work}
@@ -39,7 +39,7 @@ total_done : (t l h n : ℕ) → total t l h (replicate n done) ≡ 0
 total_done t l h zero = refl
 total_done t l h (suc n) = omega (arith, total_done t l h n)
 
-sound_done : (n : ℕ) → All Sound (replicate n done)
+sound_done : (n : ℕ) → AllByRecursion Sound (replicate n done)
 sound_done zero = tt
 sound_done (suc n) = (
   record {
@@ -56,7 +56,7 @@ sound_done (suc n) = (
 )
 
 module _ (ws rs : List Rest) (n : ℕ) (is : rs ≡ ws ++ replicate n done) where
-  pub pad_sound : All Sound ws → All Sound rs
+  pub pad_sound : AllByRecursion Sound ws → AllByRecursion Sound rs
   pad_sound s = rw is (All-append Sound ws (replicate n done) s (sound_done n))
 
   pub pad_total : (t l h : ℕ) → total t l h rs ≡ total t l h ws

@@ -1,6 +1,6 @@
 -- The scan for the largest start, from the latest block down.
 use Rattle.std.proofs.Common.{◌≡◌, ℕ, suc, ◌+◌, ◌-◌, ◌<◌, ◌≤◌, min, max, cond, ◌&&◌, eqb, leb, ◌⊎◌, List, length, get_or, set, ap, ◌∙◌, inl, inr, arith}
-use Rattle.std.specs.List.{AllByRecursion as All}
+use Rattle.std.specs.List.{AllByRecursion}
 use Rattle.std.proofs.ByRecursion.{All-get_or, All-set, All-from_get_or, all_from_every, All-weaker}
 use Rattle.std.proofs.lemmas.List.{get_or_default, length-set}
 use Rattle.std.proofs.lemmas.Bool.{cases_lt, cases_eq}
@@ -65,7 +65,7 @@ scan_starts t h ws lanes c = record {
 
 module _ (t h : ℕ) (ws lanes : List Rest) (counted best low : ℕ) (s : Scanning t h ws lanes counted) (a : Latest t h lanes 8 best low) where
   -- no block that is left starts after low
-  starts : (best ≡ 8) ⊎ (best < 8) → All (λ w. (j : ℕ) → w.next ≤ j → j < w.blocks → (best < 8) × (min h (max t (release_of w j)) ≤ low)) lanes
+  starts : (best ≡ 8) ⊎ (best < 8) → AllByRecursion (λ w. (j : ℕ) → w.next ≤ j → j < w.blocks → (best < 8) × (min h (max t (release_of w j)) ≤ low)) lanes
   starts e = All-from_get_or _ lanes blank (λ k lt j from to.
       let w : Rest = get_or lanes k blank in
       let m : (best < 8) × (top_start t h w ≤ low) = a.most k (omega (arith, s.eight)) (omega arith) in

@@ -1,6 +1,6 @@
 -- Attempts on one block.
 use Rattle.std.proofs.Common.{◌≡◌, ℕ, zero, suc, ◌+◌, ◌<◌, ◌≤◌, max, Bool, true, false, cond, ◌&&◌, leb, List, length, get_or, set, refl, ap, inl, inr, arith}
-use Rattle.std.specs.List.{AllByRecursion as All}
+use Rattle.std.specs.List.{AllByRecursion}
 use Rattle.std.proofs.lemmas.Bool.{cases_eq}
 use Rattle.schedule.specs.declared.rest.Rest.{Rest}
 use Rattle.schedule.specs.Rests.{release_of, deadline_of, owed_of, served, inside, total, OverAt}
@@ -56,7 +56,7 @@ Calm u d w = (j : ℕ) → w.next ≤ j → j < w.blocks → release_of w j < u 
 -- m slots from t on go to the block of earliest deadline d: which ends have an overfull span stays
 module _ (t m d h : ℕ) (ws : List Rest) (k : ℕ) (w : Rest) (lt : k < length ws) (r : w ≡ get_or ws k w)
     (some : w.next < w.blocks) (few : m ≤ w.left) (rel : release_of w w.next ≤ t) (at : deadline_of w w.next ≡ d) (fresh : t + m ≤ d)
-    (calm : All (Calm (t + m) d) (set ws k (served w m))) where
+    (calm : AllByRecursion (Calm (t + m) d) (set ws k (served w m))) where
   abbrev Left : List Rest
   Left = set ws k (served w m)
 

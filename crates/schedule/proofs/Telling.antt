@@ -1,6 +1,6 @@
 -- What is found of the totals, told of the charged windows.
 use Rattle.std.proofs.Common.{◌≡◌, ℕ, ◌<◌, List, ◌++◌, map, replicate, arith}
-use Rattle.std.specs.List.{AllByRecursion as All}
+use Rattle.std.specs.List.{AllByRecursion}
 use Rattle.windows.specs.Windows.{count, Assigned, NoneOverfull, FirstOverfull, OverfullAt}
 use Rattle.windows.proofs.Serve.{hall}
 use Rattle.windows.proofs.Slots.{pigeonhole}
@@ -12,7 +12,7 @@ use Rattle.schedule.specs.Scan.{LastStart}
 use Rattle.schedule.proofs.Charging.{count_charged}
 use Rattle.schedule.proofs.Padding.{pad_total}
 
-module _ (t : ℕ) (ws : List Work) (proper : All Proper ws) (rs : List Rest) (n : ℕ) (is : rs ≡ map rest ws ++ replicate n done) where
+module _ (t : ℕ) (ws : List Work) (proper : AllByRecursion Proper ws) (rs : List Rest) (n : ℕ) (is : rs ≡ map rest ws ++ replicate n done) where
   counts : (l h : ℕ) → count l h (charged t ws) ≡ total t l h rs
   counts l h = omega (arith, count_charged t l h ws proper, pad_total (map rest ws) rs n is t l h)
 

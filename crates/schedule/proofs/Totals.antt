@@ -1,6 +1,6 @@
 -- How many attempts lie in a span: what holds block by block holds of the totals.
 use Rattle.std.proofs.Common.{◌≡◌, ℕ, zero, suc, ◌+◌, ◌<◌, ◌≤◌, max, cond, ◌&&◌, leb, List, [], ◌∷◌, length, get_or, set, refl, ap, inl, inr, arith}
-use Rattle.std.specs.List.{AllByRecursion as All}
+use Rattle.std.specs.List.{AllByRecursion}
 use Rattle.std.proofs.lemmas.Bool.{cases_lt, cases_eq}
 use Rattle.schedule.specs.declared.rest.Rest.{Rest}
 use Rattle.schedule.specs.Rests.{release_of, deadline_of, owed_of, shortened, inside, total}
@@ -31,7 +31,7 @@ module _ (t l h t' l' h' : ℕ) where
             (λ some p q. f j (grind arith) (omega arith) p q),
       )
 
-  pub total_le : (ws : List Rest) → All (Into t l h t' l' h') ws → total t l h ws ≤ total t' l' h' ws
+  pub total_le : (ws : List Rest) → AllByRecursion (Into t l h t' l' h') ws → total t l h ws ≤ total t' l' h' ws
   total_le [] q = omega arith
   total_le (w ∷ ws) q = omega (arith, inside_le w q.0 w.blocks (omega arith), total_le ws q.1)
 
@@ -39,7 +39,7 @@ one_none : (l m d h n : ℕ) → (l ≤ m → h < d) → cond (leb l m && leb d 
 one_none l m d h n f = elim (cases_lt m l) [ inl p ↦ grind arith | inr p ↦ (let g : h < d = f p in grind arith) ]
 
 -- where every block starts before l or is due past h, nothing counts
-pub total_none : (t l h : ℕ) (ws : List Rest) → All (λ w. (j : ℕ) → w.next ≤ j → j < w.blocks → l ≤ max t (release_of w j) → h < deadline_of w j) ws → total t l h ws ≡ 0
+pub total_none : (t l h : ℕ) (ws : List Rest) → AllByRecursion (λ w. (j : ℕ) → w.next ≤ j → j < w.blocks → l ≤ max t (release_of w j) → h < deadline_of w j) ws → total t l h ws ≡ 0
 total_none t l h [] q = refl
 total_none t l h (w ∷ ws) q = omega (arith, none w.blocks (omega arith), total_none t l h ws q.1) where
   none : (n : ℕ) → n ≤ w.blocks → inside t l h w n ≡ 0

@@ -3,7 +3,7 @@ use Rattle.std.specs.Prelude.{◌≡◌, ℕ, ◌≤◌, List, length, Some, Non
 use Rattle.refusal.specs.declared.Refusal.{Refusal}
 use Rattle.refusal.specs.declared.Refusal.TheVariants.{Bounds}
 use Rattle.refusal.specs.declared.Span.{Span}
-use Rattle.std.specs.List.{AllByRecursion as All}
+use Rattle.std.specs.List.{AllByRecursion}
 use Rattle.windows.specs.Windows.{Window, Assigned, NoneOverfull, FirstOverfull}
 use Rattle.schedule.specs.declared.Work.{Work}
 use Rattle.schedule.specs.Orders.{Proper}
@@ -12,7 +12,7 @@ use Rattle.schedule.specs.Orders.{Proper}
 pub record Limits (t : ℕ) (ws : List Work) : Type 0 where
   pub slot : t ≤ 1000000
   pub eight : length ws ≤ 8
-  pub proper : All Proper ws
+  pub proper : AllByRecursion Proper ws
 
 abbrev pub BoundsExactlyOutsideLimits : ℕ → List Work → Result (Option Span) Refusal → Type 0
 BoundsExactlyOutsideLimits slot ws (Ok o) = Limits slot ws

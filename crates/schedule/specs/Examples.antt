@@ -1,6 +1,6 @@
 -- Worked examples: orders of period 1 and depth 2, all admitted at slot 0.
 use Rattle.std.specs.Prelude.{ℕ, List, [], ◌∷◌, Some, None, Option, MatchOption}
-use Rattle.std.specs.List.{AllByRecursion as All}
+use Rattle.std.specs.List.{AllByRecursion}
 use Rattle.windows.specs.Windows.{Assigned, NoneOverfull, FirstOverfull}
 use Rattle.schedule.specs.declared.Work.{Work}
 use Rattle.schedule.specs.Orders.{charged}
@@ -35,6 +35,6 @@ examples =
 
 -- the span of each example is the first overfull one of its lanes, and those without one, and no others, can be assigned
 abbrev pub ExamplesHold : Type 0
-ExamplesHold = All (λ e.
+ExamplesHold = AllByRecursion (λ e.
     MatchOption e.span (NoneOverfull (charged 0 e.lanes)) (FirstOverfull (charged 0 e.lanes))
     × MatchOption e.span ((ss : List ℕ) × Assigned (charged 0 e.lanes) ss) (λ _. (ss : List ℕ) → Assigned (charged 0 e.lanes) ss → ⊥)) examples

@@ -1,6 +1,6 @@
 -- The rule replayed over what is left of eight lanes.
 use Rattle.std.specs.Prelude.{◌≡◌, ℕ, ◌+◌, ◌*◌, ◌/◌, ◌%◌, ◌<◌, ◌≤◌, Bool, true, List, map, length, get_or, Option, MatchOption, slice_index, slice_index_or, slice_set}
-use Rattle.std.specs.List.{AllByRecursion as All}
+use Rattle.std.specs.List.{AllByRecursion}
 use Rattle.schedule.specs.Choice.{Choice}
 use Rattle.schedule.specs.Rests.{Sound, OverAt, deadline_of, ready, due, served, blank}
 use Rattle.schedule.specs.declared.replay.First.{First}
@@ -88,7 +88,7 @@ pub record Chosen (t : ℕ) (lanes : List Rest) (k coming : ℕ) : Type 0 where
 pub record Replayed (slot : ℕ) (work : List Rest) (t : ℕ) (lanes : List Rest) (rs os : List ℕ) : Type 0 where
   pub early : t < 2000000
   pub eight : length lanes ≡ 8
-  pub sound : All Sound lanes
+  pub sound : AllByRecursion Sound lanes
   pub releases : rs ≡ map ready lanes
   pub order : InOrder 0 lanes os
   pub on : (h : ℕ) → OverAt slot h work → OverAt t h lanes
@@ -101,13 +101,13 @@ Grown w = w.next < w.blocks → w.early ≤ w.next
 -- no lane has a lead above longest, which is 1 at least
 pub record Leads (longest : ℕ) (lanes : List Rest) : Type 0 where
   pub some : 1 ≤ longest
-  pub most : All (λ w. w.lead ≤ longest) lanes
+  pub most : AllByRecursion (λ w. w.lead ≤ longest) lanes
 
 -- a turn of the replay, with what it knows of the lanes' leads
 pub record Running (slot : ℕ) (work : List Rest) (longest t : ℕ) (lanes : List Rest) (rs os : List ℕ) (g : Bool) : Type 0 where
   pub replayed : Replayed slot work t lanes rs os
   pub leads : Leads longest lanes
-  pub grown : g ≡ true → All Grown lanes
+  pub grown : g ≡ true → AllByRecursion Grown lanes
 
 -- the least end of an overfull span
 abbrev pub FirstEnd : ℕ → List Rest → Option ℕ → Type 0

@@ -1,6 +1,6 @@
 -- What is left of a lane, as the search uses it, and how many of its attempts lie in a span.
 use Rattle.std.specs.Prelude.{◌≡◌, ℕ, zero, suc, ◌+◌, ◌-◌, ◌*◌, ◌<◌, ◌≤◌, max, cond, ◌&&◌, List, [], ◌∷◌, ◌++◌, map, length, replicate, Option, MatchOption, ◌==◌, nat_le, nat_lt}
-use Rattle.std.specs.List.{AllByRecursion as All}
+use Rattle.std.specs.List.{AllByRecursion}
 use Rattle.schedule.specs.Orders.{Proper}
 use Rattle.schedule.specs.declared.Work.{Work}
 use Rattle.schedule.specs.declared.rest.Rest.{Rest}
@@ -98,4 +98,4 @@ pub record OverAt (t h : ℕ) (ws : List Rest) : Type 0 where
 
 -- what is left of the lanes of works that are all proper, filled up to eight
 abbrev pub RestsOf : List Work → Option (List Rest) → Type 0
-RestsOf ws r = MatchOption r (All Proper ws → ⊥) (λ out. All Proper ws × (out ≡ map rest ws ++ replicate (8 - length ws) done))
+RestsOf ws r = MatchOption r (AllByRecursion Proper ws → ⊥) (λ out. AllByRecursion Proper ws × (out ≡ map rest ws ++ replicate (8 - length ws) done))

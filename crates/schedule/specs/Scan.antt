@@ -1,6 +1,6 @@
 -- The scan for the largest start of an overfull span that ends at h.
 use Rattle.std.specs.Prelude.{◌≡◌, ℕ, ◌+◌, ◌-◌, ◌<◌, ◌≤◌, min, max, List, length, get_or, slice_index_or}
-use Rattle.std.specs.List.{AllWithin, AllByRecursion as All}
+use Rattle.std.specs.List.{AllWithin, AllByRecursion}
 use Rattle.schedule.specs.Rests.{Sound, release_of, deadline_of, shortened, total, blank}
 use Rattle.schedule.specs.declared.rest.Rest.{Rest}
 
@@ -19,7 +19,7 @@ pub record CutAt (h : ℕ) (w r : Rest) : Type 0 where
 pub record CutTo (h : ℕ) (ws : List Rest) (n : ℕ) (rs : List Rest) : Type 0 where
   pub eight : length rs ≡ 8
   pub same : (t l : ℕ) → total t l h ws ≡ total t l h rs
-  pub sound : All Sound rs
+  pub sound : AllByRecursion Sound rs
   pub due : AllWithin (DueBy h) rs 0 n
 
 -- where the window of the last block of w starts, or h if that is past h
@@ -44,9 +44,9 @@ pub record Scanning (t h : ℕ) (ws lanes : List Rest) (counted : ℕ) : Type 0 
   pub low : ℕ
   pub within : low ≤ h
   pub eight : length lanes ≡ 8
-  pub sound : All Sound lanes
+  pub sound : AllByRecursion Sound lanes
   pub sum : (l : ℕ) → l ≤ low → total t l h ws ≡ counted + total t l h lanes
   pub room : low + counted ≤ h
   pub clear : (l : ℕ) → low < l → l ≤ h → l + total t l h ws ≤ h
-  pub due : All (DueBy h) lanes
-  pub under : All (λ w. w.next < w.blocks → top_start t h w ≤ low) lanes
+  pub due : AllByRecursion (DueBy h) lanes
+  pub under : AllByRecursion (λ w. w.next < w.blocks → top_start t h w ≤ low) lanes

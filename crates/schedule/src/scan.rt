@@ -3,7 +3,7 @@
 ghost use Rattle.std.specs.Prelude.{◌≡◌, ◌-◌, ◌<◌, if◌then◌else◌, nat_eq};
 ghost use Rattle.schedule.specs.Rests.{Sound, OverAt};
 ghost use Rattle.schedule.specs.Scan.{CutAt, CutTo, top_start, Latest, LastStart};
-ghost use Rattle.std.specs.List.{AllByRecursion as All};
+ghost use Rattle.std.specs.List.{AllByRecursion};
 
 use crate::rest::{Rest, deadline_of, release_at, shorten};
 
@@ -16,7 +16,7 @@ struct Top {
 
 // The largest start of an overfull span that ends at `h`.
 pub(crate) fn last_start(slot: u32, h: u32, work: &[Rest; 8]) -> u32
-    requires { (All Sound work.now) × ((h < 2000000) × (OverAt slot h work.now)) }
+    requires { (AllByRecursion Sound work.now) × ((h < 2000000) × (OverAt slot h work.now)) }
     ensures { LastStart slot h work.now result }
 {
     let mut lanes = cut(work, h);
@@ -37,7 +37,7 @@ pub(crate) fn last_start(slot: u32, h: u32, work: &[Rest; 8]) -> u32
 
 // The lanes without the blocks that are due past `h`.
 fn cut(work: &[Rest; 8], h: u32) -> [Rest; 8]
-    requires { (All Sound work.now) × (h < 2000000) }
+    requires { (AllByRecursion Sound work.now) × (h < 2000000) }
     ensures { CutTo h work.now 8 result }
 {
     let mut out = *work;
@@ -60,7 +60,7 @@ fn cut_one(w: &Rest, h: u32) -> Rest
 
 // The lane whose last block starts latest.
 fn latest(slot: u32, h: u32, work: &[Rest; 8]) -> Top
-    requires { All Sound work.now }
+    requires { AllByRecursion Sound work.now }
     ensures { Latest slot h work.now 8 result.best result.low }
 {
     let mut best = 8;

@@ -1,7 +1,7 @@
 -- Lanes of weighted windows, by way of the list of their attempts.
 
 use Rattle.std.proofs.Common.{◌≡◌, ℕ, zero, suc, ◌+◌, ◌-◌, ◌<◌, ◌≤◌, cond, ◌&&◌, eqb, leb, List, [], ◌∷◌, ◌++◌, replicate, refl, inl, inr, arith}
-use Rattle.std.specs.List.{AllByRecursion as All}
+use Rattle.std.specs.List.{AllByRecursion}
 use Rattle.std.proofs.ByRecursion.{All-append}
 use Rattle.std.proofs.lemmas.Bool.{cases_lt, cases_eq}
 use Rattle.windows.specs.Windows.{Window, count, Pick, here, there, serve}
@@ -75,17 +75,17 @@ spends_one i (b ∷ front) back a lt some = pick_right (up_to b b.blocks) (spend
 
 -- what holds of each block with a try left holds of each attempt
 module _ (P : Window → Type 0) where
-  all_replicate : (n : ℕ) (w : Window) → (0 < n → P w) → All P (replicate n w)
+  all_replicate : (n : ℕ) (w : Window) → (0 < n → P w) → AllByRecursion P (replicate n w)
   all_replicate zero w f = tt
   all_replicate (suc n) w f = (f (omega arith), all_replicate n w (λ _. f (omega arith)))
 
-  all_up_to : (a : Lane) (n : ℕ) → ((j : ℕ) → j < n → 0 < a.owed j → P (window a j)) → All P (up_to a n)
+  all_up_to : (a : Lane) (n : ℕ) → ((j : ℕ) → j < n → 0 < a.owed j → P (window a j)) → AllByRecursion P (up_to a n)
   all_up_to a zero f = tt
   all_up_to a (suc n) f =
       All-append P (replicate (a.owed n) (window a n)) (up_to a n) (all_replicate (a.owed n) (window a n) (f n (omega arith)))
       (all_up_to a n (λ j e. f j (omega arith)))
 
-  pub all_attempts : (as' : List Lane) → All (λ a. (j : ℕ) → j < a.blocks → 0 < a.owed j → P (window a j)) as' → All P (attempts as')
+  pub all_attempts : (as' : List Lane) → AllByRecursion (λ a. (j : ℕ) → j < a.blocks → 0 < a.owed j → P (window a j)) as' → AllByRecursion P (attempts as')
   all_attempts [] q = tt
   all_attempts (a ∷ as') q = All-append P (up_to a a.blocks) (attempts as') (all_up_to a a.blocks q.0) (all_attempts as' q.1)
 

@@ -1,7 +1,7 @@
 -- Attempts that come in lanes: block i of a lane asks for owed i attempts, each with the window from release i to
 -- deadline i.
 use Rattle.std.specs.Prelude.{ℕ, zero, suc, ◌+◌, ◌-◌, ◌<◌, ◌≤◌, cond, ◌&&◌, List, [], ◌∷◌, ◌++◌, replicate, ◌==◌, nat_le}
-use Rattle.std.specs.List.{AllByRecursion as All}
+use Rattle.std.specs.List.{AllByRecursion}
 use Rattle.windows.specs.Windows.{Window, Assigned, Rule}
 
 pub record Lane : Type 0 where
@@ -37,7 +37,7 @@ spend a i = record { blocks = a.blocks; release = a.release; deadline = a.deadli
 
 -- nothing that is released by t, in any lane, has its deadline before h
 abbrev pub NoneSooner : ℕ → ℕ → List Lane → Type 0
-NoneSooner t h as' = All (λ b. (j : ℕ) → j < b.blocks → 0 < b.owed j → b.release j ≤ t → h ≤ b.deadline j) as'
+NoneSooner t h as' = AllByRecursion (λ b. (j : ℕ) → j < b.blocks → 0 < b.owed j → b.release j ≤ t → h ≤ b.deadline j) as'
 
 -- LAWS
 

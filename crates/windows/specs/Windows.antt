@@ -1,6 +1,6 @@
 -- Unit attempts with windows of slots, and when all of them can be given slots of their own.
 use Rattle.std.specs.Prelude.{◌≡◌, ℕ, zero, suc, ◌+◌, ◌-◌, ◌<◌, ◌≤◌, max, cond, ◌&&◌, List, [], ◌∷◌, map, Some, None, Option, MatchOption, ◌≢◌, nat_le, nat_lt}
-use Rattle.std.specs.List.{AllByRecursion as All}
+use Rattle.std.specs.List.{AllByRecursion}
 
 -- the slots from start up to, not including, end
 pub record Window : Type 0 where
@@ -12,7 +12,7 @@ abbrev pub Assigned : List Window → List ℕ → Type 0
 Assigned [] [] = Unit {0}
 Assigned [] (s ∷ ss) = ⊥
 Assigned (w ∷ ws) [] = ⊥
-Assigned (w ∷ ws) (s ∷ ss) = (w.start ≤ s) × (s < w.end) × All (λ r. s ≢ r) ss × Assigned ws ss
+Assigned (w ∷ ws) (s ∷ ss) = (w.start ≤ s) × (s < w.end) × AllByRecursion (λ r. s ≢ r) ss × Assigned ws ss
 
 -- 1 if w starts at l or later and ends at h or earlier, else 0
 abbrev pub within : ℕ → ℕ → Window → ℕ
@@ -52,9 +52,9 @@ pub data Pick (c : Window) : List Window → List Window → Type 0 where
 -- the deadline-driven rule at slot t, from what is pending to what is still pending at t + 1: it is idle where nothing
 -- is released, and else serves a released attempt whose end has not come and than which no released one ends sooner
 pub data Rule (t : ℕ) : List Window → List Window → Type 0 where
-  idle : {ws : List Window} → All (λ w. t < w.start) ws → Rule t ws ws
+  idle : {ws : List Window} → AllByRecursion (λ w. t < w.start) ws → Rule t ws ws
   serve : {ws rest : List Window} (c : Window) → Pick c ws rest → c.start ≤ t → t < c.end
-      → All (λ w. w.start ≤ t → c.end ≤ w.end) rest → Rule t ws rest
+      → AllByRecursion (λ w. w.start ≤ t → c.end ≤ w.end) rest → Rule t ws rest
 
 -- the rule, slot after slot
 pub data Run : ℕ → List Window → ℕ → List Window → Type 0 where
@@ -70,7 +70,7 @@ RuleKeepsOverfullEnds = (t : ℕ) (ws rest : List Window) → Rule t ws rest →
 
 -- Timely: where no span is overfull at t, every pending attempt ends after t.
 abbrev pub NoneOverfullNoEndHasCome : Type 0
-NoneOverfullNoEndHasCome = (t : ℕ) (ws : List Window) → NoneOverfull (since t ws) → All (λ w. t < w.end) ws
+NoneOverfullNoEndHasCome = (t : ℕ) (ws : List Window) → NoneOverfull (since t ws) → AllByRecursion (λ w. t < w.end) ws
 
 -- Hall: no span is overfull exactly when an assignment exists.
 abbrev pub NoneOverfullExactlyWhenAssigned : Type 0
@@ -79,7 +79,7 @@ NoneOverfullExactlyWhenAssigned = (ws : List Window) → (NoneOverfull ws → (s
 -- First miss: the first slot t at which the rule finds a pending attempt whose end has come is the least end of an
 -- overfull span.
 abbrev pub FirstMissIsLeastOverfullEnd : Type 0
-FirstMissIsLeastOverfullEnd = (ws left rest : List Window) (c : Window) (t : ℕ) → Run 0 ws t left → All (λ w. t ≤ w.end) left → Pick c left rest → c.end ≡ t
+FirstMissIsLeastOverfullEnd = (ws left rest : List Window) (c : Window) (t : ℕ) → Run 0 ws t left → AllByRecursion (λ w. t ≤ w.end) left → Pick c left rest → c.end ≡ t
     → OverfullAt t ws × ((h : ℕ) → h < t → OverfullAt h ws → ⊥)
 
 -- THE SAME DECIDED BY TRYING, for worked examples

@@ -1,5 +1,5 @@
 use Rattle.std.proofs.Common.{subst, arith}
-use Rattle.std.specs.List.{AllByRecursion as All}
+use Rattle.std.specs.List.{AllByRecursion}
 use Rattle.std.proofs.ByRecursion.{All-get_or, All-more}
 use Rattle.std.proofs.lemmas.List.{take_all}
 use Rattle.std.proofs.lemmas.Bool.{both_ways}
@@ -19,6 +19,6 @@ loop-k-preserved c = (
 
 pub returns : goal.returns
 returns c = (
-  subst (All Proper) (take_all c.loop-k.k c.args.work.now (omega arith)) c.loop-k.invariant.0,
+  subst (AllByRecursion Proper) (take_all c.loop-k.k c.args.work.now (omega arith)) c.loop-k.invariant.0,
   rests_all c.args.work.now c.loop-k.out c.loop-k.k (omega arith) c.loop-k.invariant.1,
 )
