@@ -1,7 +1,7 @@
 -- A slot in which nothing happens, and how long none does.
 use Rattle.std.proofs.Common.{◌≡◌, ℕ, zero, suc, ◌+◌, ◌-◌, ◌<◌, ◌≤◌, Bool, true, false, cond, not, ◌&&◌, ◌||◌, eqb, ltb, List, [], ◌∷◌, map, length, get_or, take, set, replicate, Some, None, Option, sym, refl, ap, ◌∙◌, subst, add-one, arith}
 use Rattle.std.proofs.lemmas.List.FromFn.{fill_by_all}
-use Rattle.std.proofs.lemmas.Bool.{false≢true, cond_both}
+use Rattle.std.proofs.lemmas.Bool.{and_parts, false≢true, cond_both}
 use Rattle.std.proofs.lemmas.Bool.Decides.{nat_tests}
 use Rattle.schedule.specs.Orders.{deadline, release}
 use Rattle.schedule.specs.declared.Timing.{Timing}
@@ -111,6 +111,22 @@ later_holds now t s l e le lt live h = grind (arith, nat_tests)
 pub none_holds : (now t s : ℕ) (l : Lane) (es : List (Option Lease)) → now ≤ s → s < t → is_live l.stage ≡ true → every (later now t l) es ≡ true → any (holds_up s l) es ≡ false
 none_holds now t s l es le lt live e = any_none (later now t l) (holds_up s l) (λ x h. later_holds now t s l x le lt live h) es e
 
+same_if : {A : Type 0} (b : Bool) (x y z : A) → (b ≡ true → x ≡ y) → cond b x z ≡ cond b y z
+same_if true x y z h = h refl
+same_if false x y z h = refl
+
+-- until t the lanes pass slot s as if no lease were out
+pub all_unheld : (s t : ℕ) (ls : List (Option Lane)) (es : List (Option Lease)) → s < t → all_later s t ls es ≡ true → all_aged s [] ls ≡ all_aged s es ls
+all_unheld s t [] es lt e = refl
+all_unheld s t (None ∷ ls) es lt e = ap (λ os. None ∷ os) (all_unheld s t ls es lt e)
+all_unheld s t (Some l ∷ ls) es lt e =
+    let both = and_parts (every (later s t l) es) _ e in
+    let last = eqb (deadline l.order.timing l.order.timing.count) s in
+    let own : aged s [] l ≡ aged s es l =
+    same_if (is_live l.stage) (on_live l (BurnEnd false last)) (on_live l (BurnEnd (any (holds_up s l) es) last)) l
+    (λ live. ap (λ held. on_live l (BurnEnd held last)) (sym (none_holds s t s l es (omega arith) lt live both.0))) in
+    λ i. Some (own i) ∷ all_unheld s t ls es lt both.1 i
+
 pub one_lower : (now t r : ℕ) (l : Lane) (o : Option Lease) → r ≤ t → if_some (later now t l) o ≡ true → if_some (later now r l) o ≡ true
 one_lower now t r l None le h = refl
 one_lower now t r l (Some e) le h = later_lower now t r l e le h
@@ -195,9 +211,6 @@ release_small l ok lt =
     (λ _. omega arith) (λ _. omega (arith, deadline_up o (l.next - o.depth + 1) o.count (omega arith)))
 
 -- of what is on a head, if it is a live lane
-pub some_later : (now t : ℕ) (es : List (Option Lease)) (o : Option Lane) (l : Lane) → o ≡ Some l → if_some (λ l. every (later now t l) es) o ≡ true → every (later now t l) es ≡ true
-some_later now t es o l is e = subst (λ x. if_some (λ l. every (later now t l) es) x ≡ true) is e
-
 pub some_ok : (o : Option Lane) (l : Lane) → o ≡ Some l → l.stage ≡ Live → if_some lane_ok o ≡ true → live_ok l ≡ true
 some_ok o l is live e = live_kept l (subst (λ x. if_some lane_ok x ≡ true) is e) (ap is_live live)
 

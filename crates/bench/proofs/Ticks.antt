@@ -1,8 +1,9 @@
 -- What a slot does to a bench.
-use Rattle.std.proofs.Common.{◌≡◌, ℕ, zero, suc, ◌+◌, ◌*◌, ◌%◌, ◌<◌, ◌≤◌, Bool, true, false, cond, not, ◌&&◌, ◌||◌, eqb, ltb, leb, List, [], ◌∷◌, ◌++◌, map, length, get_or, take, drop, set, Some, None, Ok, Err, Option, Result, sym, refl, ap, ◌∙◌, subst, inl, inr, add-zero, add-one, arith, MatchOption, MatchResult}
+use Rattle.std.proofs.Common.{◌≡◌, ℕ, zero, suc, ◌+◌, ◌-◌, ◌*◌, ◌%◌, ◌<◌, ◌≤◌, Bool, true, false, cond, not, ◌&&◌, ◌||◌, eqb, ltb, leb, List, [], ◌∷◌, ◌++◌, map, length, get_or, take, drop, set, Some, None, Ok, Err, Option, Result, sym, refl, ap, ◌∙◌, subst, inl, inr, add-zero, add-one, arith, MatchOption, MatchResult}
 use Rattle.std.proofs.ByRecursion.{All-weaker}
 use Rattle.std.proofs.lemmas.List.{append_assoc, append-nil, length-map, length-take, length-drop, take_all, drop_all, drop_more, drop-drop, take-append-drop, map_more, get_or_at, get_or-set_same, get_or-set_other, set_at, at_drop_more}
-use Rattle.std.proofs.lemmas.Bool.{both_ways, cases_eq, false≢true, cond_both, ltb-true}
+use native.Mathlib.Nat.{mul-mod_left}
+use Rattle.std.proofs.lemmas.Bool.{both_ways, cases_Bool, cases_eq, false≢true, cond_both, ltb-true}
 use Rattle.std.proofs.lemmas.Bool.Decides.{nat_tests}
 use Rattle.refusal.specs.Told.{refusal_number, answer_number}
 use Rattle.refusal.specs.declared.Fault.{Fault}
@@ -19,6 +20,7 @@ use Rattle.history.specs.declared.Lease.{Lease}
 use Rattle.history.specs.declared.Stage.TheVariants.{Live, Finished, Faulted as StageFaulted, Held}
 use Rattle.history.specs.declared.Ticked.{Ticked}
 use Rattle.history.specs.declared.Ticked.TheVariants.{Idle, Read, Failed}
+use Rattle.schedule.specs.declared.Timing.{Timing}
 use Rattle.history.specs.Bench.{World, any, some_and, is_live, lane_in, lane_at, buffer_of, written}
 use Rattle.history.specs.Calls.{ticked, happens, on_live, moved, ended, changed, aged, all_aged, due, choice, next_deadline, next_block, holds_up, passed, served, tick_checks, tick, Answer, attempted, read_done, read_failed}
 use Rattle.history.specs.Requests.{Requested}
@@ -27,7 +29,7 @@ use Rattle.history.proofs.Choosing.{deadline_up, chosen, Chosen, Idle as NoneDue
 use Rattle.history.proofs.Requests.{requested_first, requested_nothing}
 use Rattle.bench.specs.Quiet.{later, all_later, settled}
 use Rattle.bench.specs.Sound.{every, lane_ok, live_ok, order_ok, all_below}
-use Rattle.bench.specs.Ticks.{request_before, deadline_of, head_of, chosen_by, fault_in, failures_in, readable, FaultAt, ToldBy, Attempted}
+use Rattle.bench.specs.Ticks.{request_before, deadline_of, head_of, chosen_by, fault_in, failures_in, may_end, readable, FaultAt, ToldBy, Attempted}
 use Rattle.bench.proofs.Rests.{all_later_sooner, all_later_lane, later_happens}
 use Rattle.bench.proofs.Sound.{every_at, every_set_some}
 
@@ -339,3 +341,34 @@ attempted_later now t ls es h l m pool r m' l' pool' is a e =
     let own = every_at (λ x. every (later (now + 1) t x) es) ls h l up is in
     all_later_lane (now + 1) t ls es h l' up (subst (λ x. every (later (now + 1) t x) es ≡ true) (sym a.lane) (cond_both (readable m l) (happens l BlockRead) (happens l (FailedAttempt (fault_in r))) (λ x. every (later (now + 1) t x) es ≡ true)
     (λ _. later_happens (now + 1) t l es BlockRead own) (λ _. later_happens (now + 1) t l es (FailedAttempt (fault_in r)) own)))
+
+-- BURNS THAT DO NOT END
+
+multiple : (s p t i : ℕ) → (leb s t && eqb ((t - s) % p) 0) ≡ false → eqb (s + i * p) t ≡ false
+multiple s p t i none = elim (cases_Bool (eqb (s + i * p) t)) [
+  | inl e ↦ (let at : s + i * p ≡ t = grind (arith, nat_tests) in let gap : t - s ≡ i * p = omega arith in let rest : (t - s) % p ≡ 0 = ap (λ x. x % p) gap ∙ mul-mod_left i p in grind (arith, nat_tests))
+  | inr e ↦ e
+]
+
+and_third : (a b c : Bool) → c ≡ false → (a && (b && c)) ≡ false
+and_third true true c e = e
+and_third true false c e = refl
+and_third false b c e = refl
+
+any_false : {A : Type 0} (p : A → Bool) → ((a : A) → p a ≡ false) → (os : List (Option A)) → any p os ≡ false
+any_false p k [] = refl
+any_false p k (None ∷ os) = any_false p k os
+any_false p k (Some a ∷ os) = ap (λ b. b || any p os) (k a) ∙ any_false p k os
+
+still : (l : Lane) → happens l (BurnEnd false false) ≡ l
+still l = cond_both (is_live l.stage) (on_live l (BurnEnd false false)) l (λ x. x ≡ l) (λ _. refl) (λ _. refl)
+
+pub not_aged : (t : ℕ) (es : List (Option Lease)) (l : Lane) → may_end t l.order.timing ≡ false → aged t es l ≡ l
+not_aged t es l none =
+    let o : Timing = l.order.timing in
+    let free = any_false (holds_up t l) (λ e. and_third (eqb e.head l.order.head) (eqb e.admitted l.admitted) _ (multiple o.start o.period t (e.index + 1) none)) es in
+    let more = multiple o.start o.period t o.count none in
+    (λ i. happens l (BurnEnd (free i) (more i))) ∙ still l
+
+pub period_some : (l : Lane) → live_ok l ≡ true → 1 ≤ l.order.timing.period
+period_some l e = grind (arith, nat_tests)

@@ -1,8 +1,8 @@
 // Taking, showing and giving back by slip.
-ghost use Rattle.std.specs.Prelude.{◌≡◌, ℕ, ◌<◌, true, false, ◌||◌, List, is_ok, IfOk};
+ghost use Rattle.std.specs.Prelude.{◌≡◌, ℕ, ◌<◌, true, false, ◌&&◌, ◌||◌, List, is_ok, IfOk, ◌==◌};
 ghost use Rattle.refusal.specs.Told.{answer_number};
 ghost use Rattle.history.specs.Calls.{answered, done, shown, slipped, take_block, give_slip, show_slip};
-ghost use Rattle.bench.specs.Model.{world, named, honoured};
+ghost use Rattle.bench.specs.Model.{world, named, honoured, out_to};
 
 use crate::giving::is_out;
 use crate::slip::Slip;
@@ -71,7 +71,7 @@ impl<D: Disk> Bench<D> {
 
     // Whether a slip is this bench's, and its lease is out by slip to its party.
     fn honours(&self, slip: &Slip) -> bool
-        ensures value { result ≡ honoured self.entry.now slip.now }
+        ensures value { result ≡ (slip.now.bench == self.entry.now.number && out_to self.entry.now.leases slip.now.party slip.now.lease true) }
         ensures within { result ≡ true → slip.now.lease < 16 }
     {
         if slip.bench != self.number {

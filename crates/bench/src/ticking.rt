@@ -5,9 +5,9 @@ ghost use Rattle.history.specs.Bench.{any, some_and, is_live, lane_in, lane_at};
 ghost use Rattle.history.specs.Calls.{answered, ticked, tick, served, due, choice, next_block, holds_up, changed, aged, all_aged, ends, how_ended};
 ghost use Rattle.history.specs.Requests.{Requested};
 ghost use Rattle.bench.specs.Model.{world};
-ghost use Rattle.bench.specs.Quiet.{if_some, later, all_later, settled};
+ghost use Rattle.bench.specs.Quiet.{all_later, settled};
 ghost use Rattle.bench.specs.Sound.{every, lane_ok, live_ok};
-ghost use Rattle.bench.specs.Ticks.{deadline_of, head_of, RequestOf, Offered, chosen_by, Alive, EndedSince, fault_in, fault_told, failures_in, FaultAt, ToldBy, ToldFrom, Attempted};
+ghost use Rattle.bench.specs.Ticks.{deadline_of, head_of, RequestOf, Offered, chosen_by, may_end, Alive, EndedSince, fault_in, fault_told, failures_in, FaultAt, ToldBy, ToldFrom, Attempted};
 
 use crate::lane::step;
 use crate::quiet::{any_live, is_live, quiet_until, renewed};
@@ -17,6 +17,7 @@ use history::{Cause, Event, Lane, Lease, Stage, Tick, Ticked};
 use queue::Queue;
 use queue::request::ReadRequest;
 use refusal::Refusal;
+use schedule::Timing;
 
 impl<D: Disk> Bench<D> {
     // One slot: at most one read, and then the burns that end.
@@ -88,7 +89,7 @@ impl<D: Disk> Bench<D> {
     fn settle(&mut self)
         ensures { (pool : List ℕ) → world D.Disk.meaning pool self.exit.now ≡ settled (world D.Disk.meaning pool self.entry.now) }
     {
-        age_all(self.now, self.lapse, &self.leases, &mut self.lanes);
+        age_past(self.now, self.lapse, &self.leases, &mut self.lanes);
         self.lapse = renewed(self.now, self.lapse, &self.lanes, &self.leases);
         self.quiet = quiet_until(self.lapse, &self.lanes);
         self.live = any_live(&self.lanes);
@@ -246,18 +247,32 @@ fn request(slot: u32, head: u8, lane: &Option<Lane>) -> Option<ReadRequest>
     })
 }
 
-// Every live lane as it is from `slot` on; no burn of a block that is lent ends before `lapse`.
-fn age_all(slot: u32, lapse: u32, leases: &[Option<Lease>], lanes: &mut [Option<Lane>])
-    requires { (every lane_ok lanes.old ≡ true) × (all_later slot lapse lanes.old leases.now ≡ true) }
+// Every live lane as it is from `slot` on; no burn of a block that is lent ends before `lapse`, so that until then the
+// leases need no look.
+fn age_past(slot: u32, lapse: u32, leases: &[Option<Lease>], lanes: &mut [Option<Lane>])
+    requires lanes { every lane_ok lanes.old ≡ true }
+    requires unheld { all_later slot lapse lanes.old leases.now ≡ true }
     ensures { lanes.new ≡ all_aged slot leases.now lanes.old }
 {
-    for lane in lanes.iter_mut() {
-        age(slot, lapse, leases, lane);
+    if slot < lapse {
+        age_all(slot, &[], lanes);
+    } else {
+        age_all(slot, leases, lanes);
     }
 }
 
-fn age(slot: u32, lapse: u32, leases: &[Option<Lease>], lane: &mut Option<Lane>)
-    requires { (if_some lane_ok lane.old ≡ true) × (if_some (λ l. every (later slot lapse l) leases.now) lane.old ≡ true) }
+// Every live lane whose burn ends at `slot`, as it is then.
+fn age_all(slot: u32, leases: &[Option<Lease>], lanes: &mut [Option<Lane>])
+    requires { every lane_ok lanes.old ≡ true }
+    ensures { lanes.new ≡ all_aged slot leases.now lanes.old }
+{
+    for lane in lanes.iter_mut() {
+        age(slot, leases, lane);
+    }
+}
+
+fn age(slot: u32, leases: &[Option<Lease>], lane: &mut Option<Lane>)
+    requires { lane_ok (lane_in lane.old) ≡ true }
     ensures { lane.new ≡ changed (aged slot leases.now) lane.old }
 {
     let Some(lane) = lane else {
@@ -266,19 +281,31 @@ fn age(slot: u32, lapse: u32, leases: &[Option<Lease>], lane: &mut Option<Lane>)
     let Stage::Live = lane.stage else {
         return;
     };
-    let held = is_held(slot, lapse, lane, leases);
+    if !may_end(slot, &lane.order.timing) {
+        return;
+    }
+    let held = is_held(slot, lane, leases);
     let last = lane.order.timing.deadline(lane.order.timing.count) == slot as u64;
     step(lane, Event::BurnEnd { held, last });
 }
 
-// Whether a lease taken in this lane is out on a block whose burn ends at `slot`; none is before `lapse`.
-fn is_held(slot: u32, lapse: u32, lane: &Lane, leases: &[Option<Lease>]) -> bool
-    requires { (live_ok lane.now ≡ true) × ((is_live lane.now.stage ≡ true) × (every (later slot lapse lane.now) leases.now ≡ true)) }
-    ensures { result ≡ any (holds_up slot lane.now) leases.now }
+// Whether `slot` is a whole number of periods after the start. A burn ends at no other slot, so that most slots pass
+// without a look at the leases.
+fn may_end(slot: u32, timing: &Timing) -> bool
+    requires { 1 ≤ timing.now.period }
+    ensures { result ≡ may_end slot timing.now }
 {
-    if slot < lapse {
+    if slot < timing.start {
         return false;
     }
+    (slot - timing.start) % timing.period == 0
+}
+
+// Whether a lease taken in this lane is out on a block whose burn ends at `slot`.
+fn is_held(slot: u32, lane: &Lane, leases: &[Option<Lease>]) -> bool
+    requires { live_ok lane.now ≡ true }
+    ensures { result ≡ any (holds_up slot lane.now) leases.now }
+{
     for m in 0..leases.len() {
         if is_holding(slot, lane, &leases[m]) {
             return true;

@@ -1,5 +1,5 @@
 -- What a clause reads of a queue.
---     held q            the items that it holds, as they lie; contracts read them as a bag, by `Shuffled`
+--     held q            the items that it holds, as they lie; contracts read them as a bag, by `IsPermutation`
 --     room q            how many it can hold
 --     Sound before q    they lie so that the first is found: a new queue does, and every call keeps it
 use Rattle.std.specs.Prelude.{ℕ, Bool, List, length, take}

@@ -1,3 +1,4 @@
+-- The keys of a read request tell requests apart.
 use Rattle.std.specs.Prelude.{◌≡◌}
 use Rattle.queue.specs.Requests.{request_keys}
 use Rattle.queue.specs.declared.request.ReadRequest.{ReadRequest}

@@ -1,10 +1,16 @@
-use Rattle.std.proofs.Common.{ap}
-use Rattle.history.specs.Bench.{is_live}
-use Rattle.bench.proofs.Rests.{some_ok, some_later}
+use Rattle.std.proofs.Common.{Some, sym, ap, ◌∙◌}
+use Rattle.history.specs.Calls.{changed, aged}
+use Rattle.bench.proofs.Ticks.{live_from_ok, not_aged, period_some}
 use Rattle.bench.proofs.ticking.age.Goals as goal
 
+pub may_end-requires : goal.may_end-requires
+may_end-requires c = period_some c.in-Some.lane (live_from_ok _ _ c.in-Some.is c.in-Live.is c.requires)
+
+pub returns-then-not-may_end : goal.returns-then-not-may_end
+returns-then-not-may_end c =
+    let t = c.args.slot in
+    let es = c.args.leases.now in
+    sym (ap (λ o. changed (aged t es) o) c.in-Some.is ∙ ap (λ l. Some l) (not_aged t es c.in-Some.lane (sym c.if-not-may_end.ensures)))
+
 pub is_held-held-requires : goal.is_held-held-requires
-is_held-held-requires c = (
-  some_ok _ _ c.in-Some.is c.in-Live.is c.requires.0,
-  (ap is_live c.in-Live.is, some_later c.args.slot c.args.lapse c.args.leases.now _ _ c.in-Some.is c.requires.1),
-)
+is_held-held-requires c = live_from_ok _ _ c.in-Some.is c.in-Live.is c.requires

@@ -3,12 +3,8 @@ use Rattle.std.proofs.lemmas.List.{at_drop_all}
 use Rattle.std.proofs.lemmas.Bool.Decides.{nat_tests}
 use Rattle.history.specs.Bench.{any}
 use Rattle.history.specs.Calls.{holds_up}
-use Rattle.bench.proofs.Rests.{none_holds}
 use Rattle.bench.proofs.Ticks.{any_more}
 use Rattle.bench.proofs.ticking.is_held.Goals as goal
-
-pub returns-then-slot-lapse : goal.returns-then-slot-lapse
-returns-then-slot-lapse c = sym (none_holds c.args.slot c.args.lapse c.args.slot c.args.lane.now c.args.leases.now (omega arith) (omega arith) c.requires.1.0 c.requires.1.1)
 
 pub returns-then-is_holding : goal.returns-then-is_holding
 returns-then-is_holding c =

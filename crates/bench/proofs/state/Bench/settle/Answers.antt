@@ -8,15 +8,15 @@ use Rattle.bench.proofs.state.Bench.settle.Goals as goal
 pub renewed-self-requires : goal.renewed-self-requires
 renewed-self-requires g c =
     let b = c.args.self.now in
-    (all_aged_ok b.now b.leases b.lanes _ b.safe c.age_all.ensures, all_later_aged b.now b.lapse b.now b.lanes _ b.leases c.age_all.ensures b.unheld)
+    (all_aged_ok b.now b.leases b.lanes _ b.safe c.age_past.ensures, all_later_aged b.now b.lapse b.now b.lanes _ b.leases c.age_past.ensures b.unheld)
 
 pub quiet_until-self-requires : goal.quiet_until-self-requires
-quiet_until-self-requires g c = let b = c.args.self.now in all_aged_ok b.now b.leases b.lanes _ b.safe c.age_all.ensures
+quiet_until-self-requires g c = let b = c.args.self.now in all_aged_ok b.now b.leases b.lanes _ b.safe c.age_past.ensures
 
 pub invariant_of-self : goal.invariant_of-self
 invariant_of-self g c =
     let b = c.args.self.now in
-    let safe = all_aged_ok b.now b.leases b.lanes _ b.safe c.age_all.ensures in
+    let safe = all_aged_ok b.now b.leases b.lanes _ b.safe c.age_past.ensures in
     record {
       time = b.time;
       calls = b.calls;
@@ -30,4 +30,4 @@ invariant_of-self g c =
     }
 
 pub returns : goal.returns
-returns g c = λ pool. ap (with_lanes (world g.D.Disk.meaning pool c.args.self.now)) c.age_all.ensures
+returns g c = λ pool. ap (with_lanes (world g.D.Disk.meaning pool c.args.self.now)) c.age_past.ensures
