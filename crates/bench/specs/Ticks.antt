@@ -61,9 +61,14 @@ fault_in Idle = no_fault
 fault_in (Read h i) = no_fault
 fault_in (Failed h i a f) = f
 
-abbrev pub fault_told : Result Tick Refusal → Fault
-fault_told (Ok r) = fault_in r.did
+abbrev pub fault_told : Result Ticked Refusal → Fault
+fault_told (Ok r) = fault_in r
 fault_told (Err e) = no_fault
+
+-- the same of an answer that tells too which lanes ended
+abbrev pub tick_fault : Result Tick Refusal → Fault
+tick_fault (Ok t) = fault_in t.did
+tick_fault (Err e) = no_fault
 
 abbrev pub failures_in : Ticked → ℕ
 failures_in Idle = 0
@@ -76,15 +81,19 @@ FaultAt h P Idle = Unit {0}
 FaultAt h P (Read g i) = Unit {0}
 FaultAt h P (Failed g i a f) = (g ≡ h) × P f
 
--- if a slot tells a fault, it is one of the disk's for the lowest unread block of the head that it tells
-abbrev pub ToldBy : (ℕ → Fault → Type 0) → List (Option Lane) → Ticked → Type 0
-ToldBy P ls Idle = Unit {0}
-ToldBy P ls (Read h i) = Unit {0}
-ToldBy P ls (Failed h i a f) = P (next_block (lane_at ls h)) f
-
-abbrev pub ToldFrom : (ℕ → Fault → Type 0) → List (Option Lane) → Result Tick Refusal → Type 0
-ToldFrom P ls (Ok r) = ToldBy P ls r.did
+-- if a tick tells a fault, it is one of the disk's for the lowest unread block of the head that it tells
+abbrev pub ToldFrom : (ℕ → Fault → Type 0) → List (Option Lane) → Result Ticked Refusal → Type 0
+ToldFrom P ls (Ok Idle) = Unit {0}
+ToldFrom P ls (Ok (Read h i)) = Unit {0}
+ToldFrom P ls (Ok (Failed h i a f)) = P (next_block (lane_at ls h)) f
 ToldFrom P ls (Err e) = Unit {0}
+
+abbrev pub ToldBy : (ℕ → Fault → Type 0) → List (Option Lane) → Ticked → Type 0
+ToldBy P ls r = ToldFrom P ls (Ok r)
+
+abbrev pub TickToldFrom : (ℕ → Fault → Type 0) → List (Option Lane) → Result Tick Refusal → Type 0
+TickToldFrom P ls (Ok t) = ToldBy P ls t.did
+TickToldFrom P ls (Err e) = Unit {0}
 
 -- the lowest unread block of l reads from the disk m
 abbrev pub readable : List Block → Lane → Bool

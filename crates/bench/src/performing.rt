@@ -89,7 +89,7 @@ impl<D: Disk> Bench<D> {
     {
         match *call {
             Call::Admit(order) => done_or(self.admit(order)),
-            Call::Tick => ticked_or(self.tick(pool)),
+            Call::Tick => ticked_or(self.tick_with_ends(pool)),
             Call::Take {
                 head,
                 block,

@@ -7,7 +7,7 @@ ghost use Rattle.history.specs.Requests.{Requested};
 ghost use Rattle.bench.specs.Model.{world};
 ghost use Rattle.bench.specs.Quiet.{all_later, settled};
 ghost use Rattle.bench.specs.Sound.{every, lane_ok, live_ok};
-ghost use Rattle.bench.specs.Ticks.{deadline_of, head_of, RequestOf, Offered, chosen_by, may_end, Alive, EndedSince, fault_in, fault_told, failures_in, FaultAt, ToldBy, ToldFrom, Attempted};
+ghost use Rattle.bench.specs.Ticks.{deadline_of, head_of, RequestOf, Offered, chosen_by, may_end, Alive, EndedSince, fault_in, fault_told, tick_fault, failures_in, FaultAt, ToldBy, ToldFrom, TickToldFrom, Attempted};
 
 use crate::lane::step;
 use crate::quiet::{any_live, is_live, quiet_until, renewed};
@@ -21,11 +21,23 @@ use schedule::Timing;
 
 impl<D: Disk> Bench<D> {
     // One slot: at most one read, and then the burns that end.
-    pub fn tick(&mut self, pool: &mut [u8]) -> Result<Tick, Refusal>
-        ensures answer { answered (λ t. ticked t.did) result ≡ (tick (world D.Disk.meaning pool.old self.entry.now) (fault_told result)).1 }
+    pub fn tick(&mut self, pool: &mut [u8]) -> Result<Ticked, Refusal>
+        ensures answer { answered ticked result ≡ (tick (world D.Disk.meaning pool.old self.entry.now) (fault_told result)).1 }
         ensures bench { world D.Disk.meaning pool.new self.exit.now ≡ (tick (world D.Disk.meaning pool.old self.entry.now) (fault_told result)).0 }
-        ensures ended { IfOk result (λ t. t.ended ≡ ends self.entry.now.lanes self.exit.now.lanes) }
         ensures origin { ToldFrom (D.Disk.faults self.entry.now.disk) self.entry.now.lanes result }
+    {
+        match self.tick_with_ends(pool) {
+            Ok(tick) => Ok(tick.did),
+            Err(refusal) => Err(refusal),
+        }
+    }
+
+    // The same, and which lanes the slot ended.
+    pub fn tick_with_ends(&mut self, pool: &mut [u8]) -> Result<Tick, Refusal>
+        ensures answer { answered (λ t. ticked t.did) result ≡ (tick (world D.Disk.meaning pool.old self.entry.now) (tick_fault result)).1 }
+        ensures bench { world D.Disk.meaning pool.new self.exit.now ≡ (tick (world D.Disk.meaning pool.old self.entry.now) (tick_fault result)).0 }
+        ensures ended { IfOk result (λ t. t.ended ≡ ends self.entry.now.lanes self.exit.now.lanes) }
+        ensures origin { TickToldFrom (D.Disk.faults self.entry.now.disk) self.entry.now.lanes result }
     {
         if pool.len() != 2048 {
             return Err(Refusal::WrongSize);

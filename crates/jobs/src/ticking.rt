@@ -22,7 +22,7 @@ pub(crate) fn tick<D: Disk>(
     ensures { OnOk result (SlotPassed (world D.Disk.meaning pool.old bench.old) log.old.items (world D.Disk.meaning pool.new bench.new) log.new.items) }
 {
     let slot = bench.slot();
-    match bench.tick(pool) {
+    match bench.tick_with_ends(pool) {
         Ok(tick) => {
             add_did(log, slot, &tick.did)?;
             add_ended(log, bench.slot(), &tick.ended)
