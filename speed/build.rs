@@ -1,4 +1,4 @@
-// Links the proved search, which `rt staticlib schedule_speed` writes.
+// Links the proved search, which `make speed` builds and puts there.
 fn main() {
     let root = std::env::var("CARGO_MANIFEST_DIR").unwrap();
     println!("cargo:rustc-link-search=native={root}/../target/staticlib");

@@ -29,7 +29,7 @@ use Rattle.history.proofs.Choosing.{deadline_up, chosen, Chosen, Idle as NoneDue
 use Rattle.history.proofs.Requests.{requested_first, requested_nothing}
 use Rattle.bench.specs.Quiet.{later, all_later, settled}
 use Rattle.bench.specs.Sound.{every, lane_ok, live_ok, order_ok, all_below}
-use Rattle.bench.specs.Ticks.{request_before, deadline_of, head_of, chosen_by, fault_in, failures_in, may_end, readable, FaultAt, ToldBy, Attempted}
+use Rattle.bench.specs.Ticks.{request_before, deadline_of, head_of, chosen_by, fault_in, failures_in, may_end, readable, FaultAt, ToldFrom, Attempted}
 use Rattle.bench.proofs.Rests.{all_later_sooner, all_later_lane, later_happens}
 use Rattle.bench.proofs.Sound.{every_at, every_set_some}
 
@@ -274,6 +274,12 @@ tick_served w f len more =
     passes w (tick_checks w) (served w f (choice w.now w.lanes)) (size, (time, tt))
 
 -- nothing is chosen, or q
+pub tick_idle : (w : World) (f : Fault) → length w.pool ≡ 2048 → (w.now ≡ 1000000 → ⊥) → chosen_by None ≡ choice w.now w.lanes → (passed w ≡ (tick w f).0) × (ticked Idle ≡ (tick w f).1)
+tick_idle w f len more e = let s = sym (tick_served w f len more ∙ ap (served w f) (sym e)) in (ap (λ x. x.0) s, ap (λ x. x.1) s)
+
+pub tick_chosen : (w : World) (f : Fault) (q : ReadRequest) → length w.pool ≡ 2048 → (w.now ≡ 1000000 → ⊥) → chosen_by (Some q) ≡ choice w.now w.lanes → ((served w f (Some (q.head, 0))).0 ≡ (tick w f).0) × ((served w f (Some (q.head, 0))).1 ≡ (tick w f).1)
+tick_chosen w f q len more e = let s = sym (tick_served w f len more ∙ ap (served w f) (sym e)) in (ap (λ x. x.0) s, ap (λ x. x.1) s)
+
 pub served_idle : (w : World) (f : Fault) → chosen_by None ≡ choice w.now w.lanes → (passed w ≡ (served w f (choice w.now w.lanes)).0) × (ticked Idle ≡ (served w f (choice w.now w.lanes)).1)
 served_idle w f e = let s = ap (served w f) e in (ap (λ x. x.0) s, ap (λ x. x.1) s)
 
@@ -292,10 +298,10 @@ passed_is w ls e = λ i. record {
   failures = w.failures;
 }
 
-pub told_by : (P : ℕ → Fault → Type 0) (ls : List (Option Lane)) (h : ℕ) (r : Ticked) → FaultAt h (P (next_block (lane_at ls h))) r → ToldBy P ls r
-told_by P ls h Idle p = tt
-told_by P ls h (Read g i) p = tt
-told_by P ls h (Failed g i a f) p = subst (λ k. P (next_block (lane_at ls k)) f) (sym p.0) p.1
+pub told_from : (P : ℕ → Fault → Type 0) (ls : List (Option Lane)) (h : ℕ) (r : Ticked) → FaultAt h (P (next_block (lane_at ls h))) r → ToldFrom P ls (Ok r)
+told_from P ls h Idle p = tt
+told_from P ls h (Read g i) p = tt
+told_from P ls h (Failed g i a f) p = subst (λ k. P (next_block (lane_at ls k)) f) (sym p.0) p.1
 
 -- A READ AND THE SLOT'S END
 

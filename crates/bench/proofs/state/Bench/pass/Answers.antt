@@ -3,7 +3,7 @@ use Rattle.bench.specs.Model.{world}
 use Rattle.bench.specs.Quiet.{rests}
 use Rattle.bench.specs.Ticks.{no_fault, fault_in}
 use Rattle.bench.proofs.Rests.{every_true, rests_zero, all_later_sooner}
-use Rattle.bench.proofs.Ticks.{chosen_due, served_idle, served_chosen, passed_is, told_by}
+use Rattle.bench.proofs.Ticks.{chosen_due, served_idle, served_chosen, passed_is, told_from}
 use Rattle.bench.proofs.state.Bench.pass.Goals as goal
 
 pub invariant_of-self : goal.invariant_of-self
@@ -41,5 +41,5 @@ returns-in-Some g c =
     record {
       answer = told.answer ∙ s.1;
       bench = told.bench ∙ s.0;
-      origin = told_by (g.D.Disk.faults b.disk) b.lanes c.in-Some.request.head c.serve.result told.origin;
+      origin = told_from (g.D.Disk.faults b.disk) b.lanes c.in-Some.request.head c.serve.result told.origin;
     }
