@@ -6,7 +6,7 @@ ghost use Rattle.queue.specs.ReadRequestTotalLemmas.{same_request};
 
 use super::{Ordered, Total};
 
-#[derive(Clone, Copy, PartialEq, Eq, Debug)]
+#[derive(Clone, Copy, PartialEq, Eq, PartialOrd, Ord, Debug)]
 pub struct ReadRequest {
     // The slot by which the block must have been read.
     pub deadline: u32,
@@ -21,13 +21,7 @@ impl Ordered for ReadRequest {
     ghost ranks = { ranks_by_keys request_keys };
 
     fn precedes(&self, other: &ReadRequest) -> bool {
-        if self.deadline != other.deadline {
-            return self.deadline < other.deadline;
-        }
-        if self.head != other.head {
-            return self.head < other.head;
-        }
-        self.block < other.block
+        self < other
     }
 }
 
