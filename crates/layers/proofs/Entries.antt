@@ -1,6 +1,8 @@
 -- Where an entry for a block stands, and what a change of it or a new one makes of what is planned.
-use Rattle.std.proofs.Common.{◌≡◌, ℕ, zero, suc, ◌+◌, ◌-◌, ◌<◌, ◌≤◌, Bool, true, false, cond, eqb, ltb, List, [], ◌∷◌, ◌++◌, length, get_or, drop, set, sym, refl, ap, ◌∙◌, ⊎_elim, arith}
-use Rattle.std.proofs.lemmas.List.{get_or-set_same, get_or-set_other, get_or_past, get_or_push, get_or_append_left, length_push, at_drop_more, at_drop_all}
+use Rattle.std.proofs.Common.{◌≡◌, ℕ, zero, suc, ◌+◌, ◌-◌, ◌<◌, ◌≤◌, Bool, true, false, cond, eqb, ltb, Some, None, is_some, List, [], ◌∷◌, ◌++◌, length, get_or, drop, set, sym, refl, ap, ◌∙◌, ⊎_elim, arith}
+use Rattle.std.proofs.lemmas.List.{get_or-set_same, get_or-set_other, get_or_past, get_or_push, get_or_append_left, length_push}
+use Rattle.std.proofs.lemmas.List.Recursion.{is_position_or_len}
+use Rattle.std.specs.List.{position}
 use Rattle.std.proofs.lemmas.Bool.{cases_eq, cases_lt, eqb-true}
 use Rattle.std.proofs.lemmas.Bool.Decides.{nat_tests}
 use Rattle.disk.specs.Meaning.{failures, dead}
@@ -10,11 +12,18 @@ use Rattle.layers.specs.declared.plan.Entry.{Entry}
 use Rattle.layers.specs.declared.plan.Left.{Left}
 use Rattle.layers.specs.declared.plan.Left.TheVariants.{Times}
 
-pub place_more : (es : List Entry) (b i : ℕ) → i < length es → place_of (drop i es) b ≡ cond (eqb (get_or es i no_entry).block b) 0 (suc (place_of (drop (i + 1) es) b))
-place_more es b i h = at_drop_more (λ xs. place_of xs b) es i no_entry h
+-- what a search by block finds
+placed : (es : List Entry) (b : ℕ) → position (λ e. eqb e.block b) es ≡ cond (ltb (place_of es b) (length es)) (Some (place_of es b)) None
+placed es b = ap (λ k. cond (ltb k (length es)) (Some k) None) (sym (is_position_or_len (λ xs. place_of xs b) (λ e. eqb e.block b) refl (λ x xs. ap (cond (eqb x.block b) 0) (omega arith)) es))
 
-pub place_end : (es : List Entry) (b i : ℕ) → length es ≤ i → place_of (drop i es) b ≡ 0
-place_end es b i h = at_drop_all (λ xs. place_of xs b) es i h
+pub is_placed : (es : List Entry) (b : ℕ) → is_some (position (λ e. eqb e.block b) es) ≡ ltb (place_of es b) (length es)
+is_placed es b = let p = placed es b in grind (arith, nat_tests)
+
+pub place_found : (es : List Entry) (b i : ℕ) → position (λ e. eqb e.block b) es ≡ Some i → (place_of es b ≡ i) × (i < length es)
+place_found es b i is = let p = sym (placed es b) ∙ is in grind (arith, nat_tests)
+
+pub place_missing : (es : List Entry) (b : ℕ) → position (λ e. eqb e.block b) es ≡ None → length es ≤ place_of es b
+place_missing es b is = let p = sym (placed es b) ∙ is in grind (arith, nat_tests)
 
 pub planned_is : (es : List Entry) (b : ℕ) → planned es b ≡ left_coming (get_or es (place_of es b) no_entry).left
 unfolding planned

@@ -1,8 +1,9 @@
 // The entries of a plan: how they are filled, and how a read uses them up.
-ghost use Rattle.std.specs.Prelude.{◌≡◌, ℕ, not, [], if◌then◌else◌, OnOk, nat_eq};
+ghost use Rattle.std.specs.Prelude.{◌≡◌, ℕ, not, [], if◌then◌else◌, OnOk, ◌==◌, nat_eq};
+ghost use Rattle.std.specs.List.{position};
 ghost use Rattle.refusal.specs.Told.{answer_number};
 ghost use Rattle.disk.specs.Meaning.{none_coming};
-ghost use Rattle.layers.specs.Entries.{listed, planned, planned_times, place_of, add_number, add_after, UsedUp};
+ghost use Rattle.layers.specs.Entries.{listed, planned, planned_times, add_number, add_after, UsedUp};
 
 use crate::plan::{Entries, Entry, Left};
 use refusal::Refusal;
@@ -28,14 +29,13 @@ impl Entries {
         ensures planned { OnOk result ((y : ℕ) → planned (listed self.new) y ≡ (if nat_eq block y then planned_times count else planned (listed self.old) y)) }
     {
         let len = self.len;
-        let taken = place(&self.table[0..len], block) < len;
+        let taken = place(&self.table[..len], block).is_some();
         if block > 4095 || count > 200 || len == 16 || taken {
             return Err(Refusal::BadEntry);
         }
-        let left = if count == 0 {
-            Left::Dead
-        } else {
-            Left::Times(count as u8)
+        let left = match count {
+            0 => Left::Dead,
+            _ => Left::Times(count as u8),
         };
         self.table[len] = Entry { block, left };
         self.len = len + 1;
@@ -52,37 +52,25 @@ impl Entries {
     }
 }
 
-// The place of the first entry for a block, or the length.
-fn place(entries: &[Entry], block: usize) -> usize
-    ensures { result ≡ place_of entries.now block }
+// The place of the entry for a block.
+fn place(entries: &[Entry], block: usize) -> Option<usize>
+    ensures { result ≡ position (λ e. e.block == block) entries.now }
 {
-    for (i, entry) in entries.iter().enumerate() {
-        if entry.block == block {
-            return i;
-        }
-    }
-    entries.len()
+    entries.iter().position(|entry| entry.block == block)
 }
 
 fn use_up(entries: &mut [Entry], block: usize) -> bool
     ensures answer { result ≡ not (none_coming (planned entries.old block)) }
     ensures after { UsedUp (planned entries.old) block (planned entries.new) }
 {
-    let i = place(entries, block);
-    if i >= entries.len() {
+    let Some(i) = place(entries, block) else {
         return false;
-    }
-    let entry = entries[i];
-    match entry.left {
+    };
+    match entries[i].left {
         Left::Dead => true,
+        Left::Times(0) => false,
         Left::Times(n) => {
-            if n == 0 {
-                return false;
-            }
-            entries[i] = Entry {
-                block: entry.block,
-                left: Left::Times(n - 1),
-            };
+            entries[i].left = Left::Times(n - 1);
             true
         }
     }
