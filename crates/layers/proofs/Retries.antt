@@ -1,5 +1,5 @@
 -- A block read again and again, and what the layer of a retry makes of it.
-use Rattle.std.proofs.Common.{◌≡◌, ℕ, ◌+◌, ◌-◌, ◌/◌, ◌<◌, ◌≤◌, List, length, get_or, set, refl, ap, subst, arith}
+use Rattle.std.proofs.Common.{◌≡◌, ℕ, zero, suc, ◌+◌, ◌-◌, ◌/◌, ◌<◌, ◌≤◌, List, length, get_or, set, refl, ap, subst, arith}
 use native.Mathlib.Nat.{div-eq_of_lt, div-eq-sub-div}
 use Rattle.std.proofs.lemmas.List.{length-set, length-map, get_or-set_same, get_or-map, map-set, set-set, set-get_or}
 use Rattle.std.proofs.lemmas.Bool.Decides.{nat_tests}
@@ -136,8 +136,13 @@ module _ (m : List Block) (b : ℕ) (h : b < length m) where
       let rf = retry_failed_set t (k + 1) in
       record { number = grind (arith, nat_tests); memory = grind (arith, nat_tests); after = grind (arith, nat_tests) }
 
-  pub retry_failed : (t k : ℕ) (mem mem' : List ℕ) (n : ℕ) (m' : List Block) → AtLeast k (block_at m b).coming → k + 1 ≡ t → (n ≡ 0 → ⊥) → length mem ≡ 64 → Reads (failed k m b) b mem n mem' m' → Reads (retry_meaning t m) b mem n mem' (retry_meaning t m')
+  retry_failed : (t k : ℕ) (mem mem' : List ℕ) (n : ℕ) (m' : List Block) → AtLeast k (block_at m b).coming → k + 1 ≡ t → (n ≡ 0 → ⊥) → length mem ≡ 64 → Reads (failed k m b) b mem n mem' m' → Reads (retry_meaning t m) b mem n mem' (retry_meaning t m')
   retry_failed t k mem mem' n m' = failed_by (block_at m b).coming t k mem mem' n m' refl
+
+  -- the layer's read by what the last call below answers
+  pub retry_last : (t k : ℕ) (mem mem' : List ℕ) (n : ℕ) (m' : List Block) → AtLeast k (block_at m b).coming → k + 1 ≡ t → length mem ≡ 64 → Reads (failed k m b) b mem n mem' m' → Reads (retry_meaning t m) b mem n mem' (retry_meaning t m')
+  retry_last t k mem mem' zero m' le eq l r = retry_granted t k mem mem' m' le (omega arith) l r
+  retry_last t k mem mem' (suc n) m' le eq l r = retry_failed t k mem mem' (suc n) m' le eq (λ e. omega arith) l r
 
 pub retry_same_bytes : (t : ℕ) (m : List Block) → SameBytes m (retry_meaning t m)
 retry_same_bytes t m = same_bytes m (retry_meaning t m) (length_retry t m) (λ y h. ap (λ (k : Block). k.bytes) (get_or_retry t m y h))

@@ -46,7 +46,6 @@ impl<D: Disk> Disk for Plan<D> {
                 block,
             }));
         }
-        self.below.read(block, memory)?;
-        Ok(())
+        self.below.read(block, memory)
     }
 }

@@ -53,16 +53,7 @@ impl<D: Disk> Disk for Retry<D> {
                 return Ok(());
             }
         }
-        call(&mut self.below, block, memory)?;
-        Ok(())
+        // The last call: its fault is passed on unaltered.
+        self.below.read(block, memory)
     }
-}
-
-// The last call below: its fault is passed on unaltered.
-fn call<D: Disk>(below: &mut D, block: usize, memory: &mut [u8]) -> Result<(), Refusal>
-    ensures outcome { Reads (D.Disk.meaning below.old) block memory.old (answer_number result) memory.new (D.Disk.meaning below.new) }
-    ensures origin { ComesFrom (D.Disk.faults below.old block) result }
-{
-    below.read(block, memory)?;
-    Ok(())
 }

@@ -2,7 +2,7 @@ use Rattle.std.proofs.Common.{◌≡◌, ◌<◌, true, false, length, sym, refl
 use Rattle.std.proofs.lemmas.Result.{err_from_is_err_and}
 use Rattle.std.proofs.lemmas.Bool.{lt-ltb}
 use Rattle.std.proofs.lemmas.Bool.Decides.{nat_tests}
-use Rattle.refusal.specs.Told.{refusal_fault}
+use Rattle.refusal.specs.Told.{answer_fault}
 use Rattle.disk.specs.Meaning.{none_coming}
 use Rattle.disk.proofs.Meaning.{reads_none}
 use Rattle.disk.proofs.Origin.{when_then, when_else, comes_weaker, comes_beyond}
@@ -27,22 +27,16 @@ returns-then-fails g c =
     let z : none_coming (p b) ≡ false = let a = c.if-fails.ensures.answer in grind (arith, nat_tests) in
     record { outcome = plan_fails p _ m b h _ r.0 c.fails.ensures.after z; origin = when_then _ _ _ (lt-ltb b (length m) h) (when_else _ _ _ z (refl, refl)) }
 
-pub returns-in_err-read : goal.returns-in_err-read
-returns-in_err-read g c =
-    let b = c.args.block in
-    let p = planned (listed c.args.self.now.entries) in
-    let m = g.D.Disk.meaning c.args.self.now.below in
-    let r = c.in_ok-check_read.ensures.answer in
-    let h : b < length m = omega (arith, r.1) in
-    let z : none_coming (p b) ≡ true = let a = c.if-fails.ensures.answer in grind (arith, nat_tests) in
-    let q = err_from_is_err_and c.from_residual-in_err-read.result c.from_residual-in_err-read.ensures.1 in
-    record { outcome = rw (q.1, q.2) (plan_below p _ m b h _ r.0 c.fails.ensures.after _ _ _ z c.in_err-read.ensures.outcome); origin = rw (q.1, q.2) (comes_weaker (refusal_fault c.in_err-read.field-0.0) _ _ (λ f o. when_then _ _ _ (lt-ltb b (length m) h) (when_then _ _ _ z o)) c.in_err-read.ensures.origin) }
-
 pub returns : goal.returns
 returns g c =
     let b = c.args.block in
     let p = planned (listed c.args.self.now.entries) in
     let m = g.D.Disk.meaning c.args.self.now.below in
     let r = c.in_ok-check_read.ensures.answer in
+    let h : b < length m = omega (arith, r.1) in
     let z : none_coming (p b) ≡ true = let a = c.if-fails.ensures.answer in grind (arith, nat_tests) in
-    record { outcome = plan_below p _ m b (omega (arith, r.1)) _ r.0 c.fails.ensures.after _ _ _ z c.in_ok-read.ensures.outcome; origin = tt }
+    let told = c.read.ensures in
+    record {
+      outcome = plan_below p _ m b h _ r.0 c.fails.ensures.after _ _ _ z told.outcome;
+      origin = comes_weaker (answer_fault c.read.result) _ _ (λ f o. when_then _ _ _ (lt-ltb b (length m) h) (when_then _ _ _ z o)) told.origin;
+    }

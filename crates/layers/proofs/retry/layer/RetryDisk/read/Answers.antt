@@ -1,11 +1,11 @@
 use Rattle.std.proofs.Common.{length, sym, refl, ◌∙◌, arith}
 use Rattle.std.proofs.lemmas.Result.{err_from_is_err_and}
 use Rattle.std.proofs.lemmas.Bool.{lt-ltb}
-use Rattle.refusal.specs.Told.{refusal_fault}
-use Rattle.refusal.proofs.Numbers.{number_ok, number_err, refusal_above}
+use Rattle.refusal.specs.Told.{answer_fault}
+use Rattle.refusal.proofs.Numbers.{number_ok, number_err}
 use Rattle.disk.proofs.Meaning.{reads_none}
 use Rattle.disk.proofs.Origin.{when_then, comes_weaker, comes_beyond}
-use Rattle.layers.proofs.Retries.{length_retry, failed_none, failed_more, retry_granted, retry_failed, at_least_none, reads_at, reads_number}
+use Rattle.layers.proofs.Retries.{length_retry, failed_none, failed_more, retry_granted, retry_last, at_least_none, reads_at, reads_number}
 use Rattle.layers.proofs.retry.layer.RetryDisk.read.Goals as goal
 
 pub returns-in_err-check_read : goal.returns-in_err-check_read
@@ -35,18 +35,13 @@ loop-failed-preserved g c =
     let s = failed_more _ _ (omega (arith, fits.1)) _ _ _ _ _ i.1 fits.0 (number_err c.read.result (sym c.if-is_ok.ensures.value)) (reads_at i.0 i.2 c.read.ensures.outcome) in
     (s.0, s.1, s.2, i.3)
 
-pub returns-in_err-call : goal.returns-in_err-call
-returns-in_err-call g c =
-    let fits = c.in_ok-check_read.ensures.answer in
-    let m = g.D.Disk.meaning c.args.self.now.below in
-    let i = c.loop-failed.invariant in
-    let p = err_from_is_err_and c.from_residual-in_err-call.result c.from_residual-in_err-call.ensures.1 in
-    let r = reads_at i.0 i.2 c.in_err-call.ensures.outcome in
-    record { outcome = rw (p.1, p.2, i.3) (retry_failed _ _ (omega (arith, fits.1)) c.args.self.now.tries.count _ _ _ _ _ i.1 (omega arith) (refusal_above c.in_err-call.field-0.0) fits.0 r); origin = rw (p.1, p.2) (comes_weaker (refusal_fault c.in_err-call.field-0.0) _ _ (λ f o. when_then _ _ _ (lt-ltb c.args.block (length m) (omega (arith, fits.1))) (c.loop-failed.self.below, o)) c.in_err-call.ensures.origin) }
-
 pub returns : goal.returns
 returns g c =
     let fits = c.in_ok-check_read.ensures.answer in
+    let m = g.D.Disk.meaning c.args.self.now.below in
     let i = c.loop-failed.invariant in
-    let r = reads_at i.0 i.2 c.in_ok-call.ensures.outcome in
-    record { outcome = rw i.3 (retry_granted _ _ (omega (arith, fits.1)) c.args.self.now.tries.count _ _ _ _ i.1 (omega arith) fits.0 r); origin = tt }
+    let told = c.read-2.ensures in
+    record {
+      outcome = rw i.3 (retry_last _ _ (omega (arith, fits.1)) c.args.self.now.tries.count _ _ _ _ _ i.1 (omega arith) fits.0 (reads_at i.0 i.2 told.outcome));
+      origin = comes_weaker (answer_fault c.read-2.result) _ _ (λ f o. when_then _ _ _ (lt-ltb c.args.block (length m) (omega (arith, fits.1))) (c.loop-failed.self.below, o)) told.origin;
+    }
