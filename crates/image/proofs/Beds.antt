@@ -1,15 +1,15 @@
 -- The records of a bed, one after the other.
-use Rattle.std.proofs.Common.{◌≡◌, ℕ, zero, suc, ◌+◌, ◌-◌, ◌*◌, ◌<◌, ◌≤◌, min, List, [], ◌++◌, length, get_or, take, drop, replicate, sym, refl, ap, ◌∙◌, ⊎_elim, mul-zero, mul-suc, arith, length-append, length-drop, length-take}
+use Rattle.std.proofs.Common.{◌≡◌, ℕ, zero, suc, ◌+◌, ◌*◌, ◌<◌, min, List, [], ◌++◌, length, get_or, take, drop, sym, refl, ap, ◌∙◌, mul-zero, mul-suc, arith, length-append, length-drop, length-take}
 use lib.ListN.{length-replicate}
 use Rattle.std.specs.List.{range_with_len, flat_map}
 use Rattle.std.proofs.lemmas.List.FromFn.{length-map-range_with_len, get_or-map-range_with_len}
-use Rattle.std.proofs.lemmas.List.{take_at, take_all, drop_at, drop-drop, drop-replicate, ext_get_or, flat_map_more}
-use Rattle.std.proofs.lemmas.Bool.{cases_lt}
+use Rattle.std.proofs.lemmas.List.{take_at, drop_at, drop-drop, ext_get_or, flat_map_more}
 use Rattle.disk.specs.Meaning.{no_block}
 use Rattle.disk.proofs.Surveys.{counting_more}
-use Rattle.image.specs.Beds.{RowsFit, rows_in, row_at, bed_of, row_block, MeansItsRows}
+use Rattle.image.specs.Beds.{RowsFit, filled, rows_in, row_at, bed_of, row_block, MeansItsRows}
 use Rattle.image.specs.Images.{record_at, image_meaning}
 use Rattle.image.specs.Records.{record_of}
+use Rattle.image.proofs.Parts.{front_part}
 use Rattle.image.proofs.Images.{length_image, get_or_image_whole}
 use Rattle.image.proofs.Records.{written_reads_back}
 
@@ -64,18 +64,10 @@ bed_none xs = refl
 pub bed_more : (xs v : List ℕ) (y : ℕ) → v ≡ flat_map (λ z. record_of z (row_at xs z)) (range_with_len 0 y) → v ++ record_of y (row_at xs y) ≡ flat_map (λ z. record_of z (row_at xs z)) (range_with_len 0 (y + 1))
 bed_more xs v y e = let f : ℕ → List ℕ = λ z. record_of z (row_at xs z) in ap (λ u. u ++ f y) e ∙ flat_map_more f [] (range_with_len 0 y) y ∙ ap (flat_map f) (sym (counting_more 0 y y (omega arith)))
 
-take_within : (n part : ℕ) (l : List ℕ) → part ≡ min (length l) n → take part l ≡ take n l
-take_within n part l e =
-    ⊎_elim
-    (λ (lt : length l < n). take_all part l (omega arith) ∙ sym (take_all n l (omega arith)))
-    (λ (le : n ≤ length l). ap (λ k. take k l) (let d : part ≡ n = omega arith in d))
-    (cases_lt (length l) n)
-
--- a part of row y copied over zeros
-pub row_copied : (xs : List ℕ) (y part : ℕ) → part ≡ min (length xs - 64 * y) 64 → take part (drop (64 * y) xs) ++ drop part (replicate 64 0) ≡ row_at xs y
-row_copied xs y part e =
-    let l = length-drop (64 * y) xs in
-    let t = take_within 64 part (drop (64 * y) xs) (omega arith) in
-    let lt : length (take 64 (drop (64 * y) xs)) ≡ part = simp length-take (omega arith) in
-    let d = drop-replicate part 64 0 in
-    ap (λ u. u ++ drop part (replicate 64 0)) t ∙ ap (λ u. take 64 (drop (64 * y) xs) ++ u) (d ∙ ap (λ k. replicate (64 - k) 0) (sym lt))
+-- row y comes off the front of the rows from y on
+pub next_row : (xs rest row left : List ℕ) (y : ℕ) → rest ≡ drop (64 * y) xs → rest ≡ row ++ left → length row ≡ min 64 (length rest) → (filled row ≡ row_at xs y) × (left ≡ drop (64 * (y + 1)) xs)
+next_row xs rest row left y at e h =
+    let f = front_part 64 rest row left e h in (
+      ap filled (sym f.0 ∙ ap (take 64) at),
+      sym f.1 ∙ ap (drop 64) at ∙ drop-drop 64 (64 * y) xs ∙ ap (λ k. drop k xs) (omega arith),
+    )

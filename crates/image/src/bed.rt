@@ -1,7 +1,7 @@
 // A bed image made of a drawing's raw rows.
-ghost use Rattle.std.specs.Prelude.{◌≡◌, ◌*◌, ◌<◌, ◌≤◌, length, replicate, IfOk, MatchResult};
+ghost use Rattle.std.specs.Prelude.{◌≡◌, ◌≤◌, length, IfOk, MatchResult};
 ghost use Rattle.refusal.specs.Told.{refusal_number};
-ghost use Rattle.image.specs.Beds.{RowsFit, row_at, bed_of, MeansItsRows};
+ghost use Rattle.image.specs.Beds.{RowsFit, filled, bed_of, MeansItsRows};
 ghost use Rattle.image.specs.Records.{record_of};
 
 use crate::record::write_record;
@@ -19,32 +19,28 @@ pub fn bed(heap: Global, rows: &[u8]) -> Result<Result<Vec<u8>, Refusal>, AllocE
         return Ok(Err(Refusal::BadImage));
     }
     let mut image = Vec::new(heap);
-    for y in 0..rows.len().div_ceil(64) {
-        let written = row_record(rows, y);
-        image.extend_from_slice(&written)?;
+    for (y, row) in rows.chunks(64).enumerate() {
+        image.extend_from_slice(&row_record(y, row))?;
     }
     Ok(Ok(image))
 }
 
-// Record y, of row y.
-fn row_record(rows: &[u8], y: usize) -> [u8; 70]
-    requires { (64 * y < length rows.now) × (y ≤ 4095) }
-    ensures { result ≡ record_of y (row_at rows.now y) }
+// Record y, of a row that may be short.
+fn row_record(y: usize, row: &[u8]) -> [u8; 70]
+    requires { (length row.now ≤ 64) × (y ≤ 4095) }
+    ensures { result ≡ record_of y (filled row.now) }
 {
-    let mut row = [0; 64];
-    copy_row(rows, y, &mut row);
     let mut written = [0; 70];
-    let _ = write_record(y, &row, &mut written);
+    let _ = write_record(y, &whole_row(row), &mut written);
     written
 }
 
-// Row y into 64 zeros.
-fn copy_row(rows: &[u8], y: usize, row: &mut [u8])
-    requires y { 64 * y < length rows.now }
-    requires zeros { row.old ≡ replicate 64 0 }
-    ensures { row.new ≡ row_at rows.now y }
+// The row, and zeros after it where it is short.
+fn whole_row(row: &[u8]) -> [u8; 64]
+    requires { length row.now ≤ 64 }
+    ensures { result ≡ filled row.now }
 {
-    let at = 64 * y;
-    let part = (rows.len() - at).min(64);
-    row[0..part].copy_from_slice(&rows[at..at + part]);
+    let mut whole = [0; 64];
+    whole[0..row.len()].copy_from_slice(row);
+    whole
 }

@@ -8,15 +8,23 @@ pub fn sum(bytes: &[u8]) -> u32
     ensures bound { result < 65536 }
     ensures law { result ≡ ones_complement (total_of bytes.now) }
 {
-    let words = bytes.len() / 2;
     let mut total = 0;
-    for k in 0..words {
-        total = carry(total + word(bytes, k));
-    }
-    if bytes.len() % 2 == 1 {
-        total = carry(total + bytes[2 * words] as u32 * 256);
+    for pair in bytes.chunks(2) {
+        total = carry(total + pair_word(pair));
     }
     total
+}
+
+// The word of two bytes, or of one.
+fn pair_word(pair: &[u8]) -> u32
+    ensures value { result ≡ word_at pair.now 0 }
+    ensures bound { result < 65536 }
+{
+    match *pair {
+        [high, low, ..] => high as u32 * 256 + low as u32,
+        [high] => high as u32 * 256,
+        [] => 0,
+    }
 }
 
 // Word k of the bytes.

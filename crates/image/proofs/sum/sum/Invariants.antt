@@ -1,6 +1,10 @@
-use Rattle.std.proofs.Common.{◌≡◌, ◌<◌}
+use Rattle.std.proofs.Common.{◌≡◌, ◌+◌, ◌*◌, ◌<◌, ◌≤◌, length, drop}
+use Rattle.std.specs.Slice.Iter.{chunks_rest, chunks_size}
 use Rattle.image.specs.Sums.{sum_to}
 use Rattle.image.proofs.sum.sum.Given as goal
 
-abbrev pub invariant-loop-k : goal.invariant-loop-k
-invariant-loop-k l = (l.total ≡ sum_to l.bytes l.k) × (l.total < 65536)
+abbrev pub invariant-loop-pair : goal.invariant-loop-pair
+invariant-loop-pair l =
+    let k = length l.yielded in
+    (l.total ≡ sum_to l.bytes k) × (l.total < 65536)
+    × (chunks_rest l.pair-iterator ≡ drop (2 * k) l.bytes) × (chunks_size l.pair-iterator ≡ 2) × (2 * k ≤ length l.bytes + 1)
