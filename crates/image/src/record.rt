@@ -7,16 +7,16 @@ use crate::sum::{sum, word};
 use refusal::Refusal;
 
 // The two bytes that every record begins with.
-const MARK: u32 = 0x4C52;
+const MARK: u16 = 0x4C52;
 
 // The 64 bytes of a record that is whole as record `number`, or nothing.
 pub fn read_record(record: &[u8], number: usize) -> Option<&[u8]>
     ensures answer { MatchOption result (Whole «record».now number → ⊥) (λ d. Whole «record».now number × (d.now ≡ data_of «record».now)) }
 {
-    if record.len() != 70 || word(record, 0) != MARK || word(record, 1) as usize != number {
+    if record.len() != 70 || word(record, 0) != MARK || usize::from(word(record, 1)) != number {
         return None;
     }
-    if word(record, 34) != 65535 - sum(&record[2..68]) {
+    if u32::from(word(record, 34)) != 65535 - sum(&record[2..68]) {
         return None;
     }
     Some(&record[4..68])
@@ -36,18 +36,17 @@ pub fn write_record(number: usize, bytes: &[u8], place: &mut [u8]) -> Result<(),
         return Err(Refusal::WrongSize);
     }
     put_word(place, 0, MARK);
-    put_word(place, 1, number as u32);
+    put_word(place, 1, number as u16);
     place[4..68].copy_from_slice(bytes);
     let check = 65535 - sum(&place[2..68]);
-    put_word(place, 34, check);
+    put_word(place, 34, check as u16);
     Ok(())
 }
 
 // Writes word k.
-fn put_word(place: &mut [u8], k: usize, value: u32)
-    requires { (2 * k + 1 < length place.old) × (value < 65536) }
+fn put_word(place: &mut [u8], k: usize, value: u16)
+    requires { 2 * k + 1 < length place.old }
     ensures { place.new ≡ slice_set (slice_set place.old (2 * k) (value / 256)) (2 * k + 1) (value % 256) }
 {
-    place[2 * k] = (value / 256) as u8;
-    place[2 * k + 1] = (value % 256) as u8;
+    [place[2 * k], place[2 * k + 1]] = value.to_be_bytes();
 }

@@ -10,30 +10,28 @@ pub fn sum(bytes: &[u8]) -> u32
 {
     let mut total = 0;
     for pair in bytes.chunks(2) {
-        total = carry(total + pair_word(pair));
+        total = carry(total + u32::from(pair_word(pair)));
     }
     total
 }
 
 // The word of two bytes, or of one.
-fn pair_word(pair: &[u8]) -> u32
-    ensures value { result ≡ word_at pair.now 0 }
-    ensures bound { result < 65536 }
+fn pair_word(pair: &[u8]) -> u16
+    ensures { result ≡ word_at pair.now 0 }
 {
     match *pair {
-        [high, low, ..] => high as u32 * 256 + low as u32,
-        [high] => high as u32 * 256,
+        [high, low, ..] => u16::from_be_bytes([high, low]),
+        [high] => u16::from_be_bytes([high, 0]),
         [] => 0,
     }
 }
 
 // Word k of the bytes.
-pub(crate) fn word(bytes: &[u8], k: usize) -> u32
+pub(crate) fn word(bytes: &[u8], k: usize) -> u16
     requires { 2 * k + 1 < length bytes.now }
-    ensures value { result ≡ word_at bytes.now k }
-    ensures bound { result < 65536 }
+    ensures { result ≡ word_at bytes.now k }
 {
-    bytes[2 * k] as u32 * 256 + bytes[2 * k + 1] as u32
+    u16::from_be_bytes([bytes[2 * k], bytes[2 * k + 1]])
 }
 
 // A word taken in: where the total reaches 65,536, 65,535 is subtracted.

@@ -19,7 +19,8 @@ loop-pair-preserved c =
     let long = ap length i.2 ∙ length-drop (2 * k) xs in
     let next = next_word xs (chunks_rest c.loop-pair.pair-iterator) c.in-Some.pair.now (chunks_rest c.next.new.self) k i.2 came.1.0 (came.1.1 ∙ ap (λ n. min n (length (chunks_rest c.loop-pair.pair-iterator))) i.3) in
     let more = sum_more xs k in
-    let word = c.pair_word.ensures.value ∙ next.0 in
+    let word = c.pair_word.ensures ∙ next.0 in
+    let small = c.pair_word.type_inv in
     rw one (grind (arith, nat_tests), grind (arith, nat_tests), next.1, came.0 ∙ i.3, omega (arith, came, long))
 
 pub returns : goal.returns
