@@ -1,12 +1,12 @@
 -- What a survey has told and left after its first blocks.
-use Rattle.std.proofs.Common.{◌≡◌, ℕ, zero, suc, ◌+◌, ◌-◌, ◌<◌, ◌≤◌, true, false, cond, not, List, [], ◌∷◌, ◌++◌, map, length, take, drop, set, filter, refl, ap, ◌∙◌, append-nil, arith}
+use Rattle.std.proofs.Common.{◌≡◌, ℕ, zero, suc, ◌+◌, ◌-◌, ◌<◌, ◌≤◌, true, cond, not, List, [], ◌∷◌, ◌++◌, map, length, take, drop, set, filter, refl, ap, ◌∙◌, append-nil, arith}
 use Rattle.std.specs.List.{range_with_len, AllByRecursion}
 use Rattle.refusal.specs.declared.Fault.{Fault}
 use Rattle.std.proofs.lemmas.List.Edits.{map_over_more}
 use Rattle.std.proofs.lemmas.List.Elements.{filter-append}
-use Rattle.std.proofs.lemmas.List.{set-get_or, length-append, length-map, length-take, length-drop, take_all, drop_all, drop_more, get_or_at, get_or_default}
+use Rattle.std.proofs.lemmas.List.{length-append, length-map, length-take, length-drop, take_all, drop_all, drop_more, get_or_at, get_or_default}
 use Rattle.std.proofs.lemmas.Bool.Decides.{nat_tests}
-use Rattle.disk.specs.Meaning.{Block, ToCome, failures, dead, no_block, none_coming, block_at, worn, Reads}
+use Rattle.disk.specs.Meaning.{Block, ToCome, failures, dead, no_block, none_coming, block_at, worn}
 use Rattle.disk.specs.Surveys.{fails_at, block_of, ToldTruly, Surveyed}
 use Rattle.disk.specs.declared.survey.Unread.{Unread}
 
@@ -15,13 +15,6 @@ worn_none (failures n) k e h = let z : n - 1 ≡ n = grind (arith, nat_tests) in
 worn_none dead k e h = grind (arith, nat_tests)
 
 -- a read that fills the memory, said as a survey says it
-pub granted_attempt : (m : List Block) (b : ℕ) (mem mem' : List ℕ) (m' : List Block) → b < length m → length mem ≡ 64 → Reads m b mem 0 mem' m' → (fails_at m b ≡ false) × (m' ≡ set m b (worn (block_at m b)))
-granted_attempt m b mem mem' m' h l r =
-    let s = set-get_or m b no_block in
-    let n : none_coming (block_at m b).coming ≡ true = grind (arith, nat_tests) in
-    let w = worn_none (block_at m b).coming (block_at m b) refl n in
-    (grind (arith, nat_tests), grind (arith, nat_tests))
-
 -- the first i blocks of the disk m are surveyed
 pub record SurveyedTo (F : ℕ → Fault → Type 0) (i : ℕ) (m : List Block) (us : List Unread) (m' : List Block) : Type 0 where
   pub blocks : map block_of us ≡ filter (fails_at m) (range_with_len 0 i)

@@ -9,7 +9,7 @@ use refusal::{Fault, Refusal};
 use std::alloc::{AllocError, Global};
 
 // A block that did not read, and the fault that its read answered.
-#[derive(Clone, Copy)]
+#[derive(Clone, Copy, PartialEq, Eq, Debug)]
 pub struct Unread {
     pub block: usize,
     pub fault: Fault,
@@ -37,9 +37,8 @@ fn attempt<D: Disk>(disk: &mut D, block: usize) -> Option<Fault>
     ensures disk { D.Disk.meaning disk.new ≡ slice_set (D.Disk.meaning disk.old) block (worn (block_at (D.Disk.meaning disk.old) block)) }
 {
     let mut memory = [0; 64];
-    match disk.read(block, &mut memory) {
-        Ok(()) => None,
-        Err(Refusal::Faulted(fault)) => Some(fault),
-        Err(_) => None,
-    }
+    let Err(Refusal::Faulted(fault)) = disk.read(block, &mut memory) else {
+        return None;
+    };
+    Some(fault)
 }
