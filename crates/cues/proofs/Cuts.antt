@@ -105,6 +105,20 @@ lines_step input line end h f e =
     (cases_lt (length l) (length input))
     ∙ ap (λ (xs : List ℕ). line ∷ lines xs) (sym whole)
 
+-- no more lines than bytes
+pub length_lines : (input : List ℕ) → length (lines input) ≤ length input
+unfolding cut
+length_lines [] = omega arith
+length_lines (c ∷ cs) = by (eqb c 10) (lines cs) (length_lines cs)
+  where
+    put : (ls : List (List ℕ)) → length ls ≤ length cs → length (onto c ls) ≤ suc (length cs)
+    put [] h = omega arith
+    put (l ∷ ls) h = omega arith
+
+    by : (b : Bool) (ls : List (List ℕ)) → length ls ≤ length cs → length (cond b ([] ∷ ls) (onto c ls)) ≤ suc (length cs)
+    by true ls h = omega arith
+    by false ls h = put ls h
+
 pub some_from_ok : {A E : Type 0} (o : Option A) (e : E) (x : A) → Ok x ≡ ok_or o e → o ≡ Some x
 some_from_ok (Some y) e x h = cc
 some_from_ok None e x h = cc
