@@ -1,14 +1,10 @@
 -- A list read line by line.
-use Rattle.std.proofs.Common.{◌≡◌, ℕ, suc, ◌+◌, ◌<◌, ◌≤◌, Bool, true, false, cond, eqb, ltb, List, [], ◌∷◌, length, drop, Some, None, Ok, Err, Result, sym, refl, ap, ◌∙◌, subst, add-one, arith, length-drop}
+use Rattle.std.proofs.Common.{◌≡◌, ℕ, suc, ◌+◌, Bool, true, false, cond, eqb, ltb, List, [], ◌∷◌, length, Some, None, Ok, Err, Result, sym, refl, ap, ◌∙◌, subst, add-one, arith}
 use Rattle.std.specs.List.Sorted.{IsPermutation}
 use Rattle.std.proofs.lemmas.List.Sorted.{IsPermutation-refl, IsPermutation-trans, IsPermutation-cons, length_permutation}
 use Rattle.layers.specs.Entries.{add_number, add_after}
 use Rattle.layers.specs.declared.plan.Entry.{Entry}
-use Rattle.std.proofs.lemmas.List.{drop_all}
 use Rattle.cues.specs.Forms.{line_cue}
-use Rattle.cues.specs.Words.{lines, front, cut}
-use Rattle.cues.proofs.Cuts.{lines_step}
-use Rattle.cues.proofs.Words.{length_front}
 use Rattle.cues.specs.declared.Cue.{Cue}
 use Rattle.cues.specs.declared.Cue.TheVariants.{Plan, At}
 use Rattle.cuelists.specs.Lists.{Sofar, sofar, Outcome, fault, go_on, call_read, cue_read, lines_read, Took, Reads, fault_of}
@@ -38,22 +34,22 @@ same_lines room line es cs ds b (l ∷ ls) h = by (line_cue b l) (λ es cs ds b 
     next t = lines_read room (suc line) t ls
 
     by_plan : (t : Bool) (more : List Entry) → (Same (next (sofar more cs false)) (next (sofar more ds false)))
-        → Same (go_on (sofar es cs b) (cond t (Ok (sofar more cs false)) (Err (fault BadEntry line 0))) next) (go_on (sofar es ds b) (cond t (Ok (sofar more ds false)) (Err (fault BadEntry line 0))) next)
+        → Same (go_on (sofar es cs b) (cond t (Ok (sofar more cs false)) (Err (fault BadEntry line))) next) (go_on (sofar es ds b) (cond t (Ok (sofar more ds false)) (Err (fault BadEntry line))) next)
     by_plan true more k = k
-    by_plan false more k = stopped es cs ds b (fault BadEntry line 0) h
+    by_plan false more k = stopped es cs ds b (fault BadEntry line) h
 
     by_call : (t : Bool) (due : Due) → Same (next (sofar es (due ∷ cs) true)) (next (sofar es (due ∷ ds) true))
-        → Same (go_on (sofar es cs b) (cond t (Ok (sofar es (due ∷ cs) true)) (Err (fault Full line 0))) next) (go_on (sofar es ds b) (cond t (Ok (sofar es (due ∷ ds) true)) (Err (fault Full line 0))) next)
+        → Same (go_on (sofar es cs b) (cond t (Ok (sofar es (due ∷ cs) true)) (Err (fault Full line))) next) (go_on (sofar es ds b) (cond t (Ok (sofar es (due ∷ ds) true)) (Err (fault Full line))) next)
     by_call true due k = k
-    by_call false due k = stopped es cs ds b (fault Full line 0) h
+    by_call false due k = stopped es cs ds b (fault Full line) h
 
     by : (said : Result Cue ℕ) → ((es : List Entry) (cs ds : List Due) (b : Bool) → IsPermutation cs ds → Same (next (sofar es cs b)) (next (sofar es ds b)))
         → Same (go_on (sofar es cs b) (cue_read room line said (sofar es cs b)) next) (go_on (sofar es ds b) (cue_read room line said (sofar es ds b)) next)
-    by (Err place) k = stopped es cs ds b (fault BadCue line place) h
+    by (Err place) k = stopped es cs ds b (fault (BadCue place) line) h
     by (Ok (Plan block count)) k = by_plan (eqb (add_number es block count) 0) (add_after es block count) (k (add_after es block count) cs ds false h)
     by (Ok (At slot call)) k =
         let due : Due = record { slot = slot; line = line; call = call } in
-        subst (λ (n : ℕ). Same (go_on (sofar es cs b) (call_read room due (sofar es cs b)) next) (go_on (sofar es ds b) (cond (ltb n room) (Ok (sofar es (due ∷ ds) true)) (Err (fault Full line 0))) next)) (sym (length_permutation cs ds h))
+        subst (λ (n : ℕ). Same (go_on (sofar es cs b) (call_read room due (sofar es cs b)) next) (go_on (sofar es ds b) (cond (ltb n room) (Ok (sofar es (due ∷ ds) true)) (Err (fault Full line))) next)) (sym (length_permutation cs ds h))
         (by_call (ltb (length cs) room) due (k es (due ∷ cs) (due ∷ ds) true (IsPermutation-cons due cs ds h)))
 
 module _ (s : Sofar) (r : Result Bool ListFault) (es : List Entry) (cs : List Due) where
@@ -89,32 +85,34 @@ lines_none room line s = refl
 pub reads_from : (o p : Outcome) (r : Result (Unit {0}) ListFault) (es : List Entry) (cs : List Due) → Same o p → fault_of r ≡ p.first_fault → es ≡ p.left.entries → cs ≡ p.left.calls → Reads o r es cs
 reads_from o p r es cs same f e c = record { answer = f ∙ sym same.faults; entries = e ∙ sym same.entries; calls = subst (IsPermutation o.left.calls) (sym c) same.calls }
 
--- one turn of the loop: the line `text` of the input from `at` on, with `start` the outcome of the whole list
-module _ (start : Outcome) (room now line : ℕ) (s : Sofar) (input text : List ℕ) (at : ℕ) (r : Result Bool ListFault) (es : List Entry) (cs : List Due)
-    (same-room : now ≡ room) (h : at < length input) (is : text ≡ front 10 (drop at input)) (took : Took s (cue_read now line (line_cue s.begun text) s) r es cs)
-    (so_far : Same start (lines_read room line s (lines (drop at input)))) where
-  split : lines (drop at input) ≡ text ∷ lines (drop (at + length text + 1) input)
-  split = lines_step input at h ∙ sym (λ j. is j ∷ lines (drop (at + length (is j) + 1) input))
+-- the loop begins at the first line
+pub turn_first : (room count : ℕ) (s : Sofar) (ls left : List (List ℕ)) → count ≡ 0 → left ≡ ls → Same (lines_read room 1 s ls) (lines_read room (count + 1) s left)
+turn_first room count s ls left n e =
+    let o = lines_read room 1 s ls in
+    let self : Same o o = record { faults = refl; entries = refl; calls = IsPermutation-refl o.left.calls } in
+    subst (Same o) (λ j. lines_read room (sym n j + 1) s (sym e j)) self
 
+-- one turn of the loop: the line `text` first of those that are left, with `start` the outcome of the whole list
+module _ (start : Outcome) (room now line number : ℕ) (s : Sofar) (left rest : List (List ℕ)) (text : List ℕ) (r : Result Bool ListFault) (es : List Entry) (cs : List Due)
+    (same-room : now ≡ room) (same-line : number ≡ line) (is : left ≡ text ∷ rest) (took : Took s (cue_read now number (line_cue s.begun text) s) r es cs)
+    (so_far : Same start (lines_read room line s left)) where
   here : Took s (cue_read room line (line_cue s.begun text) s) r es cs
-  here = subst (λ (n : ℕ). Took s (cue_read n line (line_cue s.begun text) s) r es cs) same-room took
+  here =
+      subst (λ (n : ℕ). Took s (cue_read n line (line_cue s.begun text) s) r es cs) same-room
+      (subst (λ (k : ℕ). Took s (cue_read now k (line_cue s.begun text) s) r es cs) same-line took)
 
-  from : Same start (lines_read room line s (text ∷ lines (drop (at + length text + 1) input)))
-  from = subst (λ (ls : List (List ℕ)). Same start (lines_read room line s ls)) split so_far
+  from : Same start (lines_read room line s (text ∷ rest))
+  from = subst (λ (ls : List (List ℕ)). Same start (lines_read room line s ls)) is so_far
 
-  pub turn_within : at + length text + 1 ≤ length input + 1
-  turn_within = let a = length_front 10 (drop at input) in let b = ap length is in omega (arith, length-drop at input)
-
-  pub turn_taken : (b : Bool) → r ≡ Ok b → Same start (lines_read room (line + 1) (sofar es cs b) (lines (drop (at + length text + 1) input)))
-  turn_taken b e = same_trans _ _ _ from (line_taken room line s text (lines (drop (at + length text + 1) input)) r es cs here b e)
+  pub turn_taken : (b : Bool) (count : ℕ) → r ≡ Ok b → count ≡ line → Same start (lines_read room (count + 1) (sofar es cs b) rest)
+  turn_taken b count e n =
+      subst (λ (k : ℕ). Same start (lines_read room (k + 1) (sofar es cs b) rest)) (sym n) (same_trans _ _ _ from (line_taken room line s text rest r es cs here b e))
 
   pub turn_refused : (f : ListFault) → r ≡ Err f → Reads start (Err f) es cs
-  turn_refused f e = reads_from start _ (Err f) es cs (same_trans _ _ _ from (line_refused room line s text (lines (drop (at + length text + 1) input)) r es cs here f e)) refl refl refl
+  turn_refused f e = reads_from start _ (Err f) es cs (same_trans _ _ _ from (line_refused room line s text rest r es cs here f e)) refl refl refl
 
 -- the end of the loop
-pub turn_none : (start : Outcome) (room line : ℕ) (s : Sofar) (input : List ℕ) (at : ℕ) → length input ≤ at → Same start (lines_read room line s (lines (drop at input))) → Reads start (Ok tt) s.entries s.calls
-unfolding cut
-turn_none start room line s input at h so_far =
-    let none : lines (drop at input) ≡ [] = ap lines (drop_all at input h) in
+pub turn_none : (start : Outcome) (room line : ℕ) (s : Sofar) (left : List (List ℕ)) → left ≡ [] → Same start (lines_read room line s left) → Reads start (Ok tt) s.entries s.calls
+turn_none start room line s left none so_far =
     let last = ap (lines_read room line s) none ∙ lines_none room line s in
     reads_from start _ (Ok tt) s.entries s.calls (subst (Same start) last so_far) refl refl refl

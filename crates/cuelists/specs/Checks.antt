@@ -5,7 +5,7 @@ use Rattle.queue.specs.Order.{in_order}
 use Rattle.cues.specs.Text.{cue_line}
 use Rattle.cues.specs.declared.Cue.TheVariants.{At}
 use Rattle.cuelists.specs.Dues.{due_before}
-use Rattle.cuelists.specs.Lists.{reason_number, Outcome, list_read}
+use Rattle.cuelists.specs.Lists.{fault_words, Outcome, list_read}
 use Rattle.cuelists.specs.declared.due.Due.{Due}
 use Rattle.cuelists.specs.declared.list.ListFault.{ListFault}
 
@@ -16,9 +16,8 @@ due_line d = cue_line (At d.slot d.call) ++ 10 ∷ []
 abbrev pub calls_text : List Due → List ℕ
 calls_text ds = flat_map due_line (in_order due_before ds) ++ (decimal (length ds) ++ 10 ∷ [])
 
--- number, line and place
 abbrev pub fault_text : ListFault → List ℕ
-fault_text f = decimal (reason_number f.reason) ++ (32 ∷ (decimal f.line ++ (32 ∷ (decimal f.place ++ 10 ∷ []))))
+fault_text f = fault_words f ++ 10 ∷ []
 
 abbrev pub outcome_text : Option ListFault → List Due → List ℕ
 outcome_text None ds = calls_text ds

@@ -1,5 +1,5 @@
 -- What a cue list says: its lines one after another, up to the first fault.
-use Rattle.std.specs.Prelude.{◌≡◌, ℕ, suc, min, Bool, true, false, cond, List, [], ◌∷◌, length, Some, None, Ok, Err, Option, Result, MatchResult, ◌==◌, nat_lt}
+use Rattle.std.specs.Prelude.{◌≡◌, ℕ, suc, min, Bool, true, false, cond, List, [], ◌∷◌, ◌++◌, length, decimal, Some, None, Ok, Err, Option, Result, MatchResult, ◌==◌, nat_lt}
 use Rattle.std.specs.List.Sorted.{IsPermutation}
 use Rattle.layers.specs.Entries.{add_number, add_after}
 use Rattle.layers.specs.declared.plan.Entry.{Entry}
@@ -14,20 +14,33 @@ use Rattle.cuelists.specs.declared.list.Reason.TheVariants.{BadEntry, BadCue, Fu
 
 abbrev pub reason_number : Reason → ℕ
 reason_number BadEntry = 16
-reason_number BadCue = 17
+reason_number (BadCue place) = 17
 reason_number Full = 18
 
 -- what is told of a fault as a refusal: its number, and for a bad cue its line and place
-abbrev pub reason_told : Reason → ℕ → ℕ → List ℕ
-reason_told BadEntry line place = 16 ∷ []
-reason_told BadCue line place = 17 ∷ line ∷ place ∷ []
-reason_told Full line place = 18 ∷ []
+abbrev pub reason_told : Reason → ℕ → List ℕ
+reason_told BadEntry line = 16 ∷ []
+reason_told (BadCue place) line = 17 ∷ line ∷ place ∷ []
+reason_told Full line = 18 ∷ []
 
 abbrev pub fault_told : ListFault → List ℕ
-fault_told f = reason_told f.reason f.line f.place
+fault_told f = reason_told f.reason f.line
 
-abbrev pub fault : Reason → ℕ → ℕ → ListFault
-fault why line place = record { reason = why; line = line; place = place }
+-- the byte of the line at which a bad cue is wrong, 0 for another fault
+abbrev pub reason_place : Reason → ℕ
+reason_place BadEntry = 0
+reason_place (BadCue place) = place
+reason_place Full = 0
+
+abbrev pub fault_place : ListFault → ℕ
+fault_place f = reason_place f.reason
+
+-- number, line and place
+abbrev pub fault_words : ListFault → List ℕ
+fault_words f = decimal (reason_number f.reason) ++ (32 ∷ (decimal f.line ++ (32 ∷ decimal (fault_place f))))
+
+abbrev pub fault : Reason → ℕ → ListFault
+fault why line = record { reason = why; line = line }
 
 -- the calls that a queue takes: its room, and no more than 512
 abbrev pub most : ℕ → ℕ
@@ -45,14 +58,14 @@ sofar es cs b = record { entries = es; calls = cs; begun = b }
 -- an entry is added to the plan
 abbrev pub plan_read : ℕ → ℕ → ℕ → Sofar → Result Sofar ListFault
 plan_read line block count s =
-    cond (add_number s.entries block count == 0) (Ok (sofar (add_after s.entries block count) s.calls false)) (Err (fault BadEntry line 0))
+    cond (add_number s.entries block count == 0) (Ok (sofar (add_after s.entries block count) s.calls false)) (Err (fault BadEntry line))
 
 -- a call waits with its line, where there is room
 abbrev pub call_read : ℕ → Due → Sofar → Result Sofar ListFault
-call_read room due s = cond (nat_lt (length s.calls) room) (Ok (sofar s.entries (due ∷ s.calls) true)) (Err (fault Full due.line 0))
+call_read room due s = cond (nat_lt (length s.calls) room) (Ok (sofar s.entries (due ∷ s.calls) true)) (Err (fault Full due.line))
 
 abbrev pub cue_read : ℕ → ℕ → Result Cue ℕ → Sofar → Result Sofar ListFault
-cue_read room line (Err place) s = Err (fault BadCue line place)
+cue_read room line (Err place) s = Err (fault (BadCue place) line)
 cue_read room line (Ok (Plan block count)) s = plan_read line block count s
 cue_read room line (Ok (At slot call)) s = call_read room (record { slot = slot; line = line; call = call }) s
 
@@ -73,7 +86,7 @@ lines_read room line s (l ∷ ls) = go_on s (cue_read room line (line_cue s.begu
 -- a list read into a plan with the entries es and a queue with the calls cs and room for as many in all
 abbrev pub list_read : ℕ → List Entry → List Due → List ℕ → Outcome
 list_read room es cs input =
-    cond (nat_lt 65536 (length input)) (record { left = sofar es cs false; first_fault = Some (fault Full 0 0) })
+    cond (nat_lt 65536 (length input)) (record { left = sofar es cs false; first_fault = Some (fault Full 0) })
     (lines_read (most room) 1 (sofar es cs false) (lines input))
 
 -- r, the entries and the calls after one line are those of `step`; the queue holds its calls in any order

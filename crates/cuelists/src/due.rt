@@ -1,19 +1,44 @@
 // A call that waits for its slot. Calls run by slot, those of one slot in the order of their lines.
-ghost use Rattle.std.specs.Prelude.{◌≡◌};
-ghost use Rattle.queue.specs.Keys.{lex};
-ghost use Rattle.cuelists.specs.Dues.{call_keys, due_before, due_keys};
+ghost use Rattle.std.specs.Prelude.{Some};
+ghost use Rattle.cues.specs.Text.{cue_line};
+ghost use Rattle.cues.specs.declared.Cue.TheVariants.{At};
+ghost use Rattle.cuelists.specs.Dues.{due_before, due_keys};
 ghost use Rattle.queue.specs.KeysLemmas.{ranks_by_keys, untied_by_keys};
 ghost use Rattle.cuelists.specs.DuesLemmas.{same_due};
 
-use cues::Call;
+use cues::{Call, Cue};
 use queue::{Ordered, Total};
+use std::fmt;
 
-#[derive(Clone, Copy)]
+#[derive(Clone, Copy, PartialEq, Eq, PartialOrd, Ord, Debug)]
 pub struct Due {
     pub slot: u32,
     // The line of the list that asks for the call, from 1.
     pub line: usize,
+    // No line asks for two calls, but a queue holds any items.
     pub call: Call,
+}
+
+impl Due {
+    // What memory lent to a queue may hold before it is used.
+    pub const FILLER: Due = Due {
+        slot: 0,
+        line: 0,
+        call: Call::Close { head: 0 },
+    };
+}
+
+// The line that asks for the call.
+impl fmt::Display for Due {
+    ghost output = { λ due. Some (cue_line (At due.slot due.call)) };
+
+    fn fmt<W: fmt::Write>(&self, f: &mut fmt::Formatter<W>) -> fmt::Result {
+        let cue = Cue::At {
+            slot: self.slot,
+            call: self.call,
+        };
+        write!(f, "{cue}")
+    }
 }
 
 impl Ordered for Due {
@@ -22,51 +47,10 @@ impl Ordered for Due {
     ghost ranks = { ranks_by_keys due_keys };
 
     fn precedes(&self, other: &Due) -> bool {
-        if self.slot != other.slot {
-            return self.slot < other.slot;
-        }
-        if self.line != other.line {
-            return self.line < other.line;
-        }
-        call_precedes(&self.call, &other.call)
+        self < other
     }
 }
 
 impl Total for Due {
     ghost untied = { untied_by_keys due_keys same_due };
-}
-
-// Whether a call comes first, of two that one line asks for at one slot; there is no such list, but a queue is one for
-// any items.
-fn call_precedes(call: &Call, other: &Call) -> bool
-    ensures { result ≡ lex (call_keys call.now) (call_keys other.now) }
-{
-    let mine = keys(call);
-    let others = keys(other);
-    for i in 0..8 {
-        if mine[i] != others[i] {
-            return mine[i] < others[i];
-        }
-    }
-    false
-}
-
-// What tells calls apart: a number for the kind, and their numbers.
-fn keys(call: &Call) -> [u32; 8]
-    ensures { result ≡ call_keys call.now }
-{
-    match call {
-        Call::Order {
-            head,
-            first,
-            count,
-            start,
-            period,
-            depth,
-            spare,
-        } => [0, *head, *first, *count, *start, *period, *depth, *spare],
-        Call::Take { head, block, party } => [1, *head, *block, *party, 0, 0, 0, 0],
-        Call::Give { party, lease } => [2, *party, *lease, 0, 0, 0, 0, 0],
-        Call::Close { head } => [3, *head, 0, 0, 0, 0, 0, 0],
-    }
 }

@@ -1,5 +1,5 @@
 // How a list is read: line by line, up to the first fault.
-ghost use Rattle.std.specs.Prelude.{◌≡◌, true, false, ◌∷◌, length, if◌then◌else◌, Ok, Err, MatchResult, nat_eq, nat_lt};
+ghost use Rattle.std.specs.Prelude.{◌≡◌, true, false, Some, ◌∷◌, length, if◌then◌else◌, Ok, Err, MatchResult, nat_eq, nat_lt};
 ghost use Rattle.std.specs.List.Sorted.{IsPermutation};
 ghost use Rattle.refusal.specs.Told.{told};
 ghost use Rattle.layers.specs.Entries.{listed, add_number, add_after};
@@ -7,62 +7,88 @@ ghost use Rattle.queue.specs.Held.{held, room, Sound};
 ghost use Rattle.cues.specs.Forms.{line_cue};
 ghost use Rattle.cuelists.specs.Dues.{due_before};
 ghost use Rattle.cuelists.specs.Laws.{WellFormedListsAreRead};
-ghost use Rattle.cuelists.specs.Lists.{reason_number, fault_told, fault, most, sofar, cue_read, list_read, Took, Reads};
+ghost use Rattle.cuelists.specs.Lists.{reason_number, fault_told, fault_place, fault_words, fault, most, sofar, cue_read, list_read, Took, Reads};
 ghost use Rattle.cuelists.specs.declared.list.Reason.TheVariants.{BadEntry, Full};
 
 use crate::due::Due;
 use cues::Cue;
+use cues::lines::Lines;
 use cues::reading::read_cue;
-use cues::token::line_at;
 use layers::plan::Entries;
 use queue::Queue;
 use refusal::{Place, Refusal};
+use std::fmt;
 
 // A list has at most so many calls, and at most so many bytes.
 pub const MOST_CALLS: usize = 512;
 
 pub const MOST_BYTES: usize = 65_536;
 
-// Why a list was not read to its end, and where: the line, from 1, and the byte of the line, from 0, at which the wrong
-// word begins. The place says something for a bad cue alone, and is 0 for others; an input that is too long has line 0.
-#[derive(Clone, Copy)]
+// Why a list was not read to its end, and at which line, from 1; an input that is too long has line 0.
+#[derive(Clone, Copy, PartialEq, Eq, Debug)]
 pub struct ListFault {
     pub reason: Reason,
     pub line: usize,
-    pub place: usize,
 }
 
-#[derive(Clone, Copy)]
+#[derive(Clone, Copy, PartialEq, Eq, Debug)]
 pub enum Reason {
     BadEntry,
-    BadCue,
+    // The byte of the line, from 0, at which the wrong word begins.
+    BadCue { place: usize },
     Full,
 }
 
+// The fault as a refusal; a bad cue's tells where.
+impl From<ListFault> for Refusal {
+    ghost from_gives = { λ fault refusal. told refusal ≡ fault_told fault };
+
+    fn from(fault: ListFault) -> Refusal {
+        match fault.reason {
+            Reason::BadEntry => Refusal::BadEntry,
+            Reason::BadCue { place } => Refusal::BadCue(Place {
+                line: fault.line,
+                byte: place,
+            }),
+            Reason::Full => Refusal::Full,
+        }
+    }
+}
+
 impl ListFault {
+    pub fn refusal(&self) -> Refusal
+        ensures { told result ≡ fault_told self.now }
+    {
+        Refusal::from(*self)
+    }
+
     // The refusal's number, by which the operator knows it.
     pub fn number(&self) -> u8
         ensures { result ≡ reason_number self.now.reason }
     {
-        match self.reason {
-            Reason::BadEntry => 16,
-            Reason::BadCue => 17,
-            Reason::Full => 18,
-        }
+        self.refusal().number()
     }
 
-    // The fault as a refusal; a bad cue's tells where.
-    pub fn refusal(&self) -> Refusal
-        ensures { told result ≡ fault_told self.now }
+    // The byte of the line at which a bad cue's wrong word begins; 0 for another fault.
+    pub fn place(&self) -> usize
+        ensures { result ≡ fault_place self.now }
     {
         match self.reason {
-            Reason::BadEntry => Refusal::BadEntry,
-            Reason::BadCue => Refusal::BadCue(Place {
-                line: self.line,
-                byte: self.place,
-            }),
-            Reason::Full => Refusal::Full,
+            Reason::BadCue { place } => place,
+            Reason::BadEntry | Reason::Full => 0,
         }
+    }
+}
+
+// Number, line and place.
+impl fmt::Display for ListFault {
+    ghost output = { λ fault. Some (fault_words fault) };
+
+    fn fmt<W: fmt::Write>(&self, f: &mut fmt::Formatter<W>) -> fmt::Result {
+        let number = self.number();
+        let line = self.line;
+        let place = self.place();
+        write!(f, "{number} {line} {place}")
     }
 }
 
@@ -82,20 +108,11 @@ pub fn read_list(
         return Err(ListFault {
             reason: Reason::Full,
             line: 0,
-            place: 0,
         });
     }
-    let mut at = 0;
-    let mut line = 1;
     let mut begun = false;
-    while at < input.len() {
-        let text = line_at(input, at);
-        match read_line(text, line, begun, entries, queue) {
-            Err(fault) => return Err(fault),
-            Ok(came) => begun = came,
-        }
-        at = at + text.len() + 1;
-        line += 1;
+    for (before, text) in (Lines { rest: input }).enumerate() {
+        begun = read_line(text, before + 1, begun, entries, queue)?;
     }
     Ok(())
 }
@@ -112,37 +129,31 @@ fn read_line(
     ensures room { room queue.new ≡ room queue.old }
     ensures sound { Sound due_before queue.old → Sound due_before queue.new }
 {
-    match read_cue(text, begun) {
-        Err(place) => Err(ListFault {
-            reason: Reason::BadCue,
-            line,
-            place,
-        }),
-        Ok(cue) => match cue {
-            Cue::Plan { block, count } => plan(block, count, line, entries),
-            Cue::At { slot, call } => put(Due { slot, line, call }, queue),
-        },
+    let cue = read_cue(text, begun).map_err(|place| ListFault {
+        reason: Reason::BadCue { place },
+        line,
+    })?;
+    match cue {
+        Cue::Plan { block, count } => plan(block, count, line, entries),
+        Cue::At { slot, call } => put(Due { slot, line, call }, queue),
     }
 }
 
 // Takes a plan's entry in.
 fn plan(block: u32, count: u32, line: usize, entries: &mut Entries) -> Result<bool, ListFault>
-    ensures answer { result ≡ (if nat_eq (add_number (listed entries.old) block count) 0 then Ok false else Err (fault BadEntry line 0)) }
+    ensures answer { result ≡ (if nat_eq (add_number (listed entries.old) block count) 0 then Ok false else Err (fault BadEntry line)) }
     ensures after { listed entries.new ≡ add_after (listed entries.old) block count }
 {
-    match entries.add(block as usize, count as usize) {
-        Ok(()) => Ok(false),
-        Err(_) => Err(ListFault {
-            reason: Reason::BadEntry,
-            line,
-            place: 0,
-        }),
-    }
+    let added = entries.add(block as usize, count as usize);
+    added.map(|()| false).map_err(|_| ListFault {
+        reason: Reason::BadEntry,
+        line,
+    })
 }
 
 // Takes a call in.
 fn put(due: Due, queue: &mut Queue<Due>) -> Result<bool, ListFault>
-    ensures answer { result ≡ (if nat_lt (length (held queue.old)) (most (room queue.old)) then Ok true else Err (fault Full due.line 0)) }
+    ensures answer { result ≡ (if nat_lt (length (held queue.old)) (most (room queue.old)) then Ok true else Err (fault Full due.line)) }
     ensures held { MatchResult result (λ _. IsPermutation (due ∷ held queue.old) (held queue.new)) (λ _. held queue.new ≡ held queue.old) }
     ensures room { room queue.new ≡ room queue.old }
     ensures sound { Sound due_before queue.old → Sound due_before queue.new }
@@ -150,13 +161,9 @@ fn put(due: Due, queue: &mut Queue<Due>) -> Result<bool, ListFault>
     let full = ListFault {
         reason: Reason::Full,
         line: due.line,
-        place: 0,
     };
     if queue.len() >= MOST_CALLS {
         return Err(full);
     }
-    match queue.put(due) {
-        Ok(()) => Ok(true),
-        Err(_) => Err(full),
-    }
+    queue.put(due).map(|()| true).map_err(|_| full)
 }

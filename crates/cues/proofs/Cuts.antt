@@ -1,5 +1,7 @@
 -- The first part of a cut, and the cut of the rest.
-use Rattle.std.proofs.Common.{◌≡◌, ℕ, suc, ◌+◌, ◌<◌, ◌≤◌, Bool, true, false, cond, eqb, List, [], ◌∷◌, length, drop, Some, Ok, Err, Option, sym, refl, ap, ◌∙◌, subst, ⊎_elim, arith, length-drop}
+use Rattle.std.specs.Option.{ok_or, is_some}
+use Rattle.std.specs.Prelude.{IfSome, None, min}
+use Rattle.std.proofs.Common.{◌≡◌, ℕ, suc, ◌+◌, ◌-◌, ◌<◌, ◌≤◌, Bool, true, false, cond, eqb, List, [], ◌∷◌, length, take, drop, take_all, Some, Ok, Err, Option, sym, refl, ap, ◌∙◌, subst, ⊎_elim, arith, length-drop}
 use Rattle.std.proofs.lemmas.Bool.{cond-true, cond-false, lt-ltb, le-ltb, cases_lt}
 use Rattle.std.proofs.lemmas.List.{drop-drop, drop_all}
 use Rattle.cues.specs.Tokens.{token_word, Reads}
@@ -82,17 +84,48 @@ module _ (line : List ℕ) (from : ℕ) where
       let split = ap (words_from line) p ∙ ap (placed from) first.1 in
       subst (λ ws. Next ws (length line) (Err place) others) (sym split) r
 
--- the lines from `at` on, the first of them apart
-pub lines_step : (input : List ℕ) (at : ℕ) → at < length input → lines (drop at input) ≡ front 10 (drop at input) ∷ lines (drop (at + length (front 10 (drop at input)) + 1) input)
+pub lines_none : (input : List ℕ) → length input ≡ 0 → lines input ≡ []
 unfolding cut
-lines_step input at h =
-    let rest = drop at input in
-    let l = front 10 rest in
-    let size = length-drop at input in
+lines_none [] e = refl
+lines_none (c ∷ cs) e = absurd (omega arith)
+
+-- the first of the lines apart
+pub lines_step : (input : List ℕ) (line : List ℕ) (end : ℕ) → 0 < length input → line ≡ front 10 input → end ≡ min (length input) (length line + 1) → lines input ≡ line ∷ lines (take (length input - end) (drop end input))
+unfolding cut
+lines_step input line end h f e =
+    let l = front 10 input in
+    let same : length l ≡ length line = ap length (sym f) in
+    let whole = take_all (length input - end) (drop end input) (omega (arith, length-drop end input)) in
     ⊎_elim
-    (λ (lt : length l < length rest).
-    let next : at + suc (length l) ≡ at + length l + 1 = omega arith in
-    cut_more 10 [] rest lt ∙ ap (λ (xs : List ℕ). l ∷ lines xs) (drop-drop (suc (length l)) at input ∙ ap (λ (k : ℕ). drop k input) next))
-    (λ (ge : length rest ≤ length l).
-    cut_last 10 [] (λ c. refl) rest (omega arith) ge ∙ ap (λ (xs : List ℕ). l ∷ lines xs) (sym (drop_all (at + length l + 1) input (omega arith))))
-    (cases_lt (length l) (length rest))
+    (λ (lt : length l < length input).
+    let to : suc (length l) ≡ end = omega arith in
+    cut_more 10 [] input lt ∙ (λ j. sym f j ∷ lines (drop (to j) input)))
+    (λ (ge : length input ≤ length l).
+    cut_last 10 [] (λ c. refl) input h ge ∙ (λ j. sym f j ∷ lines (sym (drop_all end input (omega arith)) j)))
+    (cases_lt (length l) (length input))
+    ∙ ap (λ (xs : List ℕ). line ∷ lines xs) (sym whole)
+
+-- no more lines than bytes
+pub length_lines : (input : List ℕ) → length (lines input) ≤ length input
+unfolding cut
+length_lines [] = omega arith
+length_lines (c ∷ cs) = by (eqb c 10) (lines cs) (length_lines cs)
+  where
+    put : (ls : List (List ℕ)) → length ls ≤ length cs → length (onto c ls) ≤ suc (length cs)
+    put [] h = omega arith
+    put (l ∷ ls) h = omega arith
+
+    by : (b : Bool) (ls : List (List ℕ)) → length ls ≤ length cs → length (cond b ([] ∷ ls) (onto c ls)) ≤ suc (length cs)
+    by true ls h = omega arith
+    by false ls h = put ls h
+
+pub some_from_ok : {A E : Type 0} (o : Option A) (e : E) (x : A) → Ok x ≡ ok_or o e → o ≡ Some x
+some_from_ok (Some y) e x h = cc
+some_from_ok None e x h = cc
+
+-- what `then` gives
+pub given_if : {A : Type 0} (o : Option A) (b : Bool) (x : A) → is_some o ≡ b → IfSome o (λ y. y ≡ x) → o ≡ cond b (Some x) None
+given_if (Some y) true x e h = ap (λ v. Some v) h
+given_if (Some y) false x e h = cc
+given_if None true x e h = cc
+given_if None false x e h = refl

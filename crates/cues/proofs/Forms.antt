@@ -1,10 +1,12 @@
 -- Numbers, one word after another.
-use Rattle.std.proofs.Common.{◌≡◌, ℕ, suc, ◌+◌, ◌-◌, ◌<◌, ◌≤◌, Bool, true, false, List, [], ◌∷◌, ◌++◌, length, take, drop, set, Some, None, Ok, Err, Option, Result, sym, refl, ap, ◌∙◌, append_assoc, append-nil, arith, length-set, take_all}
+use Rattle.std.proofs.Common.{◌≡◌, ℕ, suc, ◌+◌, ◌-◌, ◌<◌, ◌≤◌, Bool, List, [], ◌∷◌, ◌++◌, length, take, drop, set, Some, None, Ok, Err, Option, Result, sym, refl, ap, ◌∙◌, append_assoc, append-nil, arith, length-set, take_all}
 use Rattle.std.proofs.lemmas.List.{take_more_set}
 use Rattle.std.proofs.lemmas.Bool.{cond-true, le-leb}
 use Rattle.cues.specs.Words.{Word, number, letter}
-use Rattle.cues.specs.Forms.{Placed, placed, numbers, then_number, letter_form, call_form, after_slot, cue_form, form}
-use Rattle.cues.specs.Reading.{words_from, Next}
+use Rattle.cues.specs.declared.Cue.{Cue}
+use Rattle.cues.specs.declared.reading.Words.{Words}
+use Rattle.cues.specs.Forms.{Placed, placed, numbers, then_number, made_cue, letter_form, call_form, after_slot, cue_form, form}
+use Rattle.cues.specs.Reading.{words_from, left, end, Next}
 use Rattle.cues.specs.Tokens.{token_place, token_says}
 use Rattle.cues.specs.declared.token.Token.{Token}
 use Rattle.cues.proofs.Cuts.{front_first}
@@ -75,16 +77,17 @@ module _ (end : ℕ) (others : List Placed) (token : Token) where
   after_slot_letter (w ∷ ws) s c h e =
       ap (λ (x : Word). call_form end s x w.place ws) (h.0.says ∙ e) ∙ (λ j. letter_form end (Some s) c (sym h.0.place j) (sym h.1 j))
 
-  pub form_letter : (ws : List Placed) (c : ℕ) → Next ws end (Ok token) others → token_says token ≡ letter c → form end false ws ≡ letter_form end None c (token_place token) others
-  form_letter [] c h e = absurd h
-  form_letter (w ∷ ws) c h e =
-      ap (λ (x : Word). cue_form end false x w.place ws) (h.0.says ∙ e) ∙ (λ j. letter_form end None c (sym h.0.place j) (sym h.1 j))
-
-  pub form_begun : (ws : List Placed) (c : ℕ) → Next ws end (Ok token) others → token_says token ≡ letter c → form end true ws ≡ Err (token_place token)
-  form_begun [] c h e = absurd h
-  form_begun (w ∷ ws) c h e = ap (λ (x : Word). cue_form end true x w.place ws) (h.0.says ∙ e) ∙ ap (λ (p : ℕ). Err p) (sym h.0.place)
-
   pub form_slot : (begun : Bool) (ws : List Placed) (s : ℕ) → Next ws end (Ok token) others → token_says token ≡ number s → s ≤ 1000000 → form end begun ws ≡ after_slot end s others
   form_slot begun [] s h e b = absurd h
   form_slot begun (w ∷ ws) s h e b =
       ap (λ (x : Word). cue_form end begun x w.place ws) (h.0.says ∙ e) ∙ cond-true _ _ _ (le-leb s 1000000 b) ∙ ap (after_slot end s) (sym h.1)
+
+-- a call is made of the numbers that follow its letter
+pub call_made : (w after : Words) (s c k : ℕ) (f : List ℕ → Cue) (token : Token) (r : Result (List ℕ) ℕ)
+    → Next (left w) (end w) (Ok token) (left after) → after.line ≡ w.line → token_says token ≡ letter c
+    → ((e at : ℕ) (ws : List Placed) → letter_form e (Some s) c at ws ≡ made_cue f (numbers k e ws))
+    → r ≡ numbers k (end after) (left after) → made_cue f r ≡ after_slot (end w) s (left w)
+call_made w after s c k f token r next line says asks read =
+    let ends : end after ≡ end w = ap (λ l. length l.now) line in
+    ap (made_cue f) read ∙ (λ j. made_cue f (numbers k (ends j) (left after)))
+    ∙ sym (asks (end w) (token_place token) (left after)) ∙ sym (after_slot_letter (end w) (left after) token (left w) s c next says)

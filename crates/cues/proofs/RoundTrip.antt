@@ -1,19 +1,18 @@
 -- The line of a cue reads as the cue.
-use Rattle.std.proofs.Common.{◌≡◌, ℕ, ◌+◌, ◌-◌, ◌*◌, ◌^◌, ◌<◌, ◌≤◌, Bool, true, false, eqb, ◌⊎◌, List, [], ◌∷◌, ◌++◌, map, length, get_or, Ok, decimal, fold, refl, ap, ◌∙◌, inl, inr, ⊎_elim, arith, lit<}
+use Rattle.std.proofs.Common.{◌≡◌, ℕ, ◌+◌, ◌^◌, ◌<◌, ◌≤◌, Bool, true, false, eqb, ◌⊎◌, List, [], ◌∷◌, ◌++◌, map, length, get_or, Ok, decimal, refl, ap, ◌∙◌, inl, inr, ⊎_elim, arith, lit<}
 use Rattle.std.specs.Char.{is_ascii_digit}
 use Rattle.std.specs.List.{AllByRecursion}
 use Rattle.std.specs.Str.{all_ascii_digits}
 use Rattle.std.proofs.lemmas.Fmt.{digits_decimal, digits_value-decimal, decimal_nonempty, decimal_digit, length-decimal-le, first_decimal}
-use Rattle.std.proofs.lemmas.Str.Parse.{IsNumeralModel, numerals_by_fold, tells_all_ascii_digits}
 use Rattle.std.proofs.lemmas.Bool.{cond-true, cond-false, and_parts, eq-eqb, ne_eqb, le-leb, cases_lt}
-use Rattle.cues.specs.Words.{Word, number, onto, cut, words, number_value, word_of}
+use Rattle.cues.specs.Words.{Word, number, onto, cut, words, word_of}
 use Rattle.cues.specs.Forms.{Placed, placed, numbers, then_number, made_cue, plan, order, take_block, give, close, cue_form, form, after_slot, line_cue}
 use Rattle.cues.specs.Text.{spaced, call_letter, call_numbers, cue_words, cue_line, Writable}
 use Rattle.cues.specs.declared.Call.{Call}
 use Rattle.cues.specs.declared.Call.TheVariants.{Order, Take, Give, Close}
 use Rattle.cues.specs.declared.Cue.{Cue}
 use Rattle.cues.specs.declared.Cue.TheVariants.{Plan, At}
-use Rattle.cues.proofs.Words.{digit_range, number_true}
+use Rattle.cues.proofs.Words.{own, digit_range, number_true}
 
 -- no byte of w is m
 abbrev pub Lacks : ℕ → List ℕ → Type 0
@@ -35,9 +34,6 @@ words_one (c ∷ cs) u = cond-false _ _ _ u.0 ∙ ap (onto c) (words_one cs u.1)
 words_spaced : (w : List ℕ) (ws : List (List ℕ)) → Unspaced w → AllByRecursion Unspaced ws → words (spaced (w ∷ ws)) ≡ w ∷ ws
 words_spaced w [] u us = words_one w u
 words_spaced w (v ∷ ws) u us = cut_lacking 32 ([] ∷ []) w (spaced (v ∷ ws)) u ∙ ap (λ (l : List (List ℕ)). w ∷ l) (words_spaced v ws us.0 us.1)
-
-pub own : IsNumeralModel (λ ds. all_ascii_digits ds ≡ true) number_value
-own = numerals_by_fold _ tells_all_ascii_digits (λ n ds. fold (λ m c. m * 10 + (c - 48)) n ds) (record { empty = λ n. refl; more = λ n c cs h. refl })
 
 lacks_digits : (m : ℕ) → m < 48 → (w : List ℕ) → all_ascii_digits w ≡ true → Lacks m w
 lacks_digits m h [] d = tt

@@ -1,66 +1,58 @@
 -- Words and digits, byte by byte.
-use Rattle.std.proofs.Common.{◌≡◌, ℕ, zero, suc, ◌+◌, ◌-◌, ◌<◌, ◌≤◌, Bool, true, false, cond, eqb, ◌⊎◌, List, [], ◌∷◌, length, get_or, take, drop, sym, refl, ap, ◌∙◌, ⊎_elim, arith}
-use Rattle.std.specs.Char.{is_ascii_digit, is_ascii_alphabetic}
-use Rattle.std.specs.Str.{all_ascii_digits}
-use Rattle.std.proofs.lemmas.Bool.{cond-true, cond-false, eq-eqb, ne_eqb, and_parts, and_from, and_left, and_right, cases_Bool, both_ways}
+use Rattle.std.specs.Prelude.{position, MatchOption, ◌&&◌}
+use Rattle.std.specs.List.{position_or_len, list_all}
+use Rattle.std.proofs.Common.{lit<, ◌*◌, ◌^◌, fold, not, Option, Some, None, ltb, ◌≡◌, ℕ, zero, suc, ◌+◌, ◌-◌, ◌<◌, ◌≤◌, Bool, true, false, cond, eqb, ◌⊎◌, List, [], ◌∷◌, length, get_or, take, take_all, sym, refl, ap, ◌∙◌, arith}
+use Rattle.std.specs.Char.{is_ascii_digit}
+use Rattle.std.specs.Str.{all_ascii_digits, IsAscii}
+use Rattle.std.proofs.lemmas.Str.Parse.{IsNumeralModel, numerals_by_fold, tells_all_ascii_digits, digits_value_short}
+use Rattle.std.proofs.lemmas.Bool.{and_parts}
 use Rattle.std.proofs.lemmas.Bool.Decides.{nat_tests}
-use Rattle.std.proofs.lemmas.List.{at_drop_more, at_drop_all}
-use Rattle.cues.specs.Words.{front, is_number, word_of, neither}
+use Rattle.std.proofs.lemmas.Bool.{ltb-false}
+use Rattle.cues.specs.Words.{front, is_number, number_value}
 
--- the front of what is left, at a byte that does not end it, at one that does, and at the end
-module _ (mark : ℕ) (xs : List ℕ) (i : ℕ) where
-  pub front_more : i < length xs → (get_or xs i 0 ≡ mark → ⊥) → length (front mark (drop i xs)) ≡ suc (length (front mark (drop (i + 1) xs)))
-  front_more h ne = at_drop_more (λ l. length (front mark l)) xs i 0 h ∙ ap length (cond-false _ _ _ (ne_eqb (get_or xs i 0) mark ne))
-
-  pub front_stops : i < length xs → get_or xs i 0 ≡ mark → length (front mark (drop i xs)) ≡ 0
-  front_stops h e = at_drop_more (λ l. length (front mark l)) xs i 0 h ∙ ap length (cond-true _ _ _ (eq-eqb (get_or xs i 0) mark e))
-
-  pub front_ends : length xs ≤ i → length (front mark (drop i xs)) ≡ 0
-  front_ends h = at_drop_all (λ l. length (front mark l)) xs i h
-
-pub front_is : (mark : ℕ) (xs : List ℕ) → front mark xs ≡ take (length (front mark xs)) xs
-front_is mark [] = refl
-front_is mark (x ∷ xs) = front_at (eqb x mark) x (front mark xs) xs (front_is mark xs)
+-- the front ends at the first `mark`, or is the whole
+front_take : (mark : ℕ) (xs : List ℕ) → front mark xs ≡ take (position_or_len (λ b. eqb b mark) xs) xs
+front_take mark [] = refl
+front_take mark (x ∷ xs) = by (eqb x mark) (front_take mark xs)
   where
-    front_at : (b : Bool) (x : ℕ) (w xs : List ℕ) → w ≡ take (length w) xs → cond b [] (x ∷ w) ≡ take (length (cond b [] (x ∷ w))) (x ∷ xs)
-    front_at true x w xs e = refl
-    front_at false x w xs e = ap (λ (l : List ℕ). x ∷ l) e
+    by : (b : Bool) → front mark xs ≡ take (position_or_len (λ b. eqb b mark) xs) xs
+        → cond b [] (x ∷ front mark xs) ≡ take (cond (not b) (1 + position_or_len (λ b. eqb b mark) xs) 0) (x ∷ xs)
+    by true e = refl
+    by false e =
+        let n : suc (position_or_len (λ b. eqb b mark) xs) ≡ 1 + position_or_len (λ b. eqb b mark) xs = omega arith in
+        ap (λ (l : List ℕ). x ∷ l) e ∙ ap (λ (k : ℕ). take k (x ∷ xs)) n
 
-digit_test : (w : List ℕ) (i : ℕ) → all_ascii_digits w ≡ true → i < length w → is_ascii_digit (get_or w i 0) ≡ true
-digit_test [] i e h = absurd (omega arith)
-digit_test (c ∷ cs) zero e h = (and_parts (is_ascii_digit c) (all_ascii_digits cs) e).0
-digit_test (c ∷ cs) (suc i) e h = digit_test cs i (and_parts (is_ascii_digit c) (all_ascii_digits cs) e).1 (omega arith)
-
-pub digits_from : (w : List ℕ) → ((i : ℕ) → i < length w → is_ascii_digit (get_or w i 0) ≡ true) → all_ascii_digits w ≡ true
-digits_from [] h = refl
-digits_from (c ∷ cs) h = and_from (is_ascii_digit c) (all_ascii_digits cs) (h 0 (omega arith)) (digits_from cs (λ i l. h (suc i) (omega arith)))
+pub front_found : (mark : ℕ) (xs : List ℕ) (r : Option ℕ) → r ≡ position (λ b. eqb b mark) xs → MatchOption r (xs ≡ front mark xs) (λ end. take end xs ≡ front mark xs)
+front_found mark xs r e = by (position_or_len (λ b. eqb b mark) xs) _ refl (front_take mark xs) r e
+  where
+    by : (at : ℕ) (b : Bool) → ltb at (length xs) ≡ b → front mark xs ≡ take at xs → (r : Option ℕ) → r ≡ cond b (Some at) None → MatchOption r (xs ≡ front mark xs) (λ end. take end xs ≡ front mark xs)
+    by at true t f (Some end) q = let same : end ≡ at = cc in ap (λ (k : ℕ). take k xs) same ∙ sym f
+    by at true t f None q = absurd (cc)
+    by at false t f (Some end) q = absurd (cc)
+    by at false t f None q = sym (f ∙ take_all at xs (omega (arith, ltb-false)))
 
 module _ (w : List ℕ) where
   pub number_true : 0 < length w → length w ≤ 7 → ((get_or w 0 0 ≡ 48) × (length w ≤ 1)) ⊎ (get_or w 0 0 ≡ 48 → ⊥) → all_ascii_digits w ≡ true → is_number w ≡ true
   number_true a b z d = grind (arith, nat_tests)
 
-  pub number_false : (i : ℕ) → i < length w → is_ascii_digit (get_or w i 0) ≡ false → is_number w ≡ false
-  number_false i h e = ⊎_elim (λ d. absurd (both_ways (is_ascii_digit (get_or w i 0)) e (digit_test w i d h))) (λ d. grind (arith, nat_tests)) (cases_Bool (all_ascii_digits w))
+-- digits write the number of their value, and 7 of them one below 10,000,000
+pub own : IsNumeralModel (λ ds. all_ascii_digits ds ≡ true) number_value
+own = numerals_by_fold _ tells_all_ascii_digits (λ n ds. fold (λ m c. m * 10 + (c - 48)) n ds) (record { empty = λ n. refl; more = λ n c cs h. refl })
 
-pub word_between : (mark : ℕ) (xs : List ℕ) (from end : ℕ) → end ≡ from + length (front mark (drop from xs)) → take (end - from) (drop from xs) ≡ front mark (drop from xs)
-word_between mark xs from end e =
-    let n : end - from ≡ length (front mark (drop from xs)) = omega arith in
-    ap (λ (k : ℕ). take k (drop from xs)) n ∙ sym (front_is mark (drop from xs))
+pub number_parts : (w : List ℕ) → is_number w ≡ true → (all_ascii_digits w ≡ true) × (0 < length w) × (number_value w < 2 ^ 32)
+number_parts w e =
+    let d : all_ascii_digits w ≡ true = grind (arith, nat_tests) in
+    let size : (0 < length w) × (length w ≤ 7) = grind (arith, nat_tests) in
+    (d, size.0, omega (arith, digits_value_short own w 7 d size.1))
 
 pub digit_range : (c : ℕ) → is_ascii_digit c ≡ true → (48 ≤ c) × (c ≤ 57)
 digit_range c e = grind (arith, nat_tests)
 
-module _ (w : List ℕ) (no_number : is_number w ≡ false) where
-  pub neither_long : (length w ≡ 1 → ⊥) → word_of w ≡ neither
-  neither_long h = cond-false _ _ _ no_number ∙ cond-false _ _ _ (and_left (eqb (length w) 1) _ (ne_eqb (length w) 1 h))
+pub ascii_digits : (w : List ℕ) → all_ascii_digits w ≡ true → IsAscii w
+ascii_digits [] e i = lit< tt
+ascii_digits (c ∷ cs) e zero = omega (arith, digit_range c (and_parts (is_ascii_digit c) (all_ascii_digits cs) e).0)
+ascii_digits (c ∷ cs) e (suc i) = ascii_digits cs (and_parts (is_ascii_digit c) (all_ascii_digits cs) e).1 i
 
-  pub neither_letter : is_ascii_alphabetic (get_or w 0 0) ≡ false → word_of w ≡ neither
-  neither_letter h = cond-false _ _ _ no_number ∙ cond-false _ _ _ (and_right (eqb (length w) 1) _ h)
-
-pub length_front : (mark : ℕ) (xs : List ℕ) → length (front mark xs) ≤ length xs
-length_front mark [] = omega arith
-length_front mark (x ∷ xs) = by (eqb x mark) (length_front mark xs)
-  where
-    by : (b : Bool) → length (front mark xs) ≤ length xs → length (cond b [] (x ∷ front mark xs)) ≤ suc (length xs)
-    by true h = omega arith
-    by false h = omega arith
+pub digits_all : (w : List ℕ) → list_all is_ascii_digit w ≡ all_ascii_digits w
+digits_all [] = refl
+digits_all (c ∷ cs) = ap (λ (b : Bool). is_ascii_digit c && b) (digits_all cs)

@@ -1,8 +1,9 @@
--- Words as they are read one after another.
+-- Words, and lines, as they are read one after another.
 use Rattle.std.specs.Prelude.{◌≡◌, ℕ, ◌+◌, cond, List, [], ◌∷◌, length, drop, Some, None, Ok, Err, Option, Result, nat_lt}
 use Rattle.cues.specs.Forms.{Placed, placed}
 use Rattle.cues.specs.Tokens.{Tells}
-use Rattle.cues.specs.Words.{words, word_of, neither}
+use Rattle.cues.specs.Words.{lines, words, word_of, neither}
+use Rattle.cues.specs.declared.lines.Lines.{Lines}
 use Rattle.cues.specs.declared.reading.Words.{Words}
 use Rattle.cues.specs.declared.token.Token.{Token}
 
@@ -27,3 +28,6 @@ Next [] end (Ok token) others = ⊥
 Next [] end (Err place) others = place ≡ end
 Next (w ∷ ws) end (Ok token) others = Tells w.place w.bytes token × (others ≡ ws)
 Next (w ∷ ws) end (Err place) others = (place ≡ w.place) × (word_of w.bytes ≡ neither)
+
+abbrev pub lines_left : Lines → List (List ℕ)
+lines_left l = lines l.rest.now

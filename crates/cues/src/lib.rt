@@ -1,13 +1,14 @@
 // Cues: what an operator asks of a bench ahead of time, one to a line of a cue list.
 #![tactic(auto)]
 
+pub mod lines;
 pub mod reading;
 pub mod text;
 pub mod token;
 
 // What a line says. Its numbers stand as they were written: a call whose numbers are outside their limits is refused
 // when its slot has come.
-#[derive(Clone, Copy)]
+#[derive(Clone, Copy, PartialEq, Eq, Debug)]
 pub enum Cue {
     // `p B C`: the reads of block B fail C times, or always where C is 0.
     Plan { block: u32, count: u32 },
@@ -15,7 +16,7 @@ pub enum Cue {
     At { slot: u32, call: Call },
 }
 
-#[derive(Clone, Copy)]
+#[derive(Clone, Copy, PartialEq, Eq, PartialOrd, Ord, Debug)]
 pub enum Call {
     // `S o H F n s p b k`: an order for head H, n blocks from F on.
     Order {

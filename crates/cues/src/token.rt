@@ -1,10 +1,11 @@
 // The words of a line, which single spaces part. A token borrows its word from the line and knows its place there, the
 // offset of the word's first byte.
-ghost use Rattle.std.specs.Prelude.{◌≡◌, ◌+◌, ◌≤◌, true, false, length, drop, MatchOption};
-ghost use Rattle.cues.specs.Tokens.{Reads, Tells};
+ghost use Rattle.std.specs.Prelude.{◌≡◌, false, true, length, drop, MatchOption};
+ghost use Rattle.std.specs.Str.{all_ascii_digits};
+ghost use Rattle.cues.specs.Tokens.{Reads, Tells, token_word};
 ghost use Rattle.cues.specs.Words.{front, is_number, number_value, word_of, neither};
 
-#[derive(Clone, Copy)]
+#[derive(Clone, Copy, PartialEq, Eq, Debug)]
 pub enum Token<'a> {
     // 1 to 7 digits with no leading zero, but for 0 itself.
     Number {
@@ -20,29 +21,23 @@ pub enum Token<'a> {
     },
 }
 
+impl Token<'_> {
+    // How many bytes of the line the token has.
+    pub(crate) fn width(&self) -> usize
+        ensures { result ≡ length (token_word self.now) }
+    {
+        match self {
+            Token::Number { word, .. } | Token::Letter { word, .. } => word.len(),
+        }
+    }
+}
+
 // The word of the line that begins at `from`; where it is neither a number nor a letter, its place.
 pub fn token_at<'a>(line: &'a [u8], from: usize) -> Result<Token<'a>, usize>
     ensures { Reads line.now from result }
 {
-    if from > line.len() {
-        return Err(from);
-    }
-    let end = end_of(line, from, b' ');
-    match token_of(&line[from..end], from) {
-        Some(token) => Ok(token),
-        None => Err(from),
-    }
-}
-
-// The line of a list that begins at `from`, without the byte that ends it.
-pub fn line_at(input: &[u8], from: usize) -> &[u8]
-    ensures { result.now ≡ front 10 (drop from input.now) }
-{
-    if from > input.len() {
-        return &input[0..0];
-    }
-    let end = end_of(input, from, b'\n');
-    &input[from..end]
+    let rest = line.get(from..).ok_or(from)?;
+    token_of(front(rest, b' '), from).ok_or(from)
 }
 
 // What a word says, where it is a number or a letter.
@@ -52,49 +47,47 @@ fn token_of<'a>(word: &'a [u8], place: usize) -> Option<Token<'a>>
     if let Some(value) = number(word) {
         return Some(Token::Number { word, place, value });
     }
-    if word.len() == 1 && word[0].is_ascii_alphabetic() {
-        let letter = char::from(word[0]);
-        return Some(Token::Letter {
+    match word {
+        [letter] if letter.is_ascii_alphabetic() => Some(Token::Letter {
             word,
             place,
-            letter,
-        });
+            letter: char::from(*letter),
+        }),
+        _ => None,
     }
-    None
 }
 
-// Where the part that begins at `from` ends: at the next byte `mark`, or at the end.
-pub(crate) fn end_of(bytes: &[u8], from: usize, mark: u8) -> usize
-    requires { from ≤ length bytes.now }
-    ensures value { result ≡ from + length (front mark (drop from bytes.now)) }
-    ensures within { result ≤ length bytes.now }
+// The bytes before the first `mark`.
+pub(crate) fn front(bytes: &[u8], mark: u8) -> &[u8]
+    ensures { result.now ≡ front mark bytes.now }
 {
-    let mut at = from;
-    while at < bytes.len() {
-        if bytes[at] == mark {
-            break;
-        }
-        at += 1;
+    match bytes.iter().position(|byte| *byte == mark) {
+        Some(end) => &bytes[..end],
+        None => bytes,
     }
-    at
 }
 
 // The number that a word writes.
 fn number(word: &[u8]) -> Option<u32>
     ensures { MatchOption result (is_number word.now ≡ false) (λ n. (is_number word.now ≡ true) × (n ≡ number_value word.now)) }
 {
-    if word.len() == 0 || word.len() > 7 {
+    if !is_number(word) {
         return None;
     }
-    if word[0] == b'0' && word.len() > 1 {
+    let Ok(digits) = std::str::from_utf8(word) else {
         return None;
-    }
-    let mut n: u32 = 0;
-    for digit in word {
-        if !digit.is_ascii_digit() {
-            return None;
-        }
-        n = n * 10 + (*digit - b'0') as u32;
-    }
-    Some(n)
+    };
+    digits.parse().ok()
+}
+
+fn is_number(word: &[u8]) -> bool
+    ensures { result ≡ is_number word.now }
+{
+    !word.is_empty() && word.len() <= 7 && (word[0] != b'0' || word.len() == 1) && are_digits(word)
+}
+
+fn are_digits(word: &[u8]) -> bool
+    ensures { result ≡ all_ascii_digits word.now }
+{
+    word.iter().all(|byte| byte.is_ascii_digit())
 }

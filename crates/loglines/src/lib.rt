@@ -1,18 +1,21 @@
 // The log of a job: each kind of line as a value, and its text written into the caller's memory.
 #![tactic(auto)]
 
-ghost use Rattle.std.specs.Prelude.{◌≡◌, ◌+◌, ◌*◌, ◌<◌, ◌≤◌, [], ◌∷◌, ◌++◌, length, IfOk, if◌then◌else◌, decimal, MatchResult, nat_lt};
+ghost use Rattle.std.specs.Prelude.{◌≡◌, ◌+◌, ◌*◌, ◌<◌, ◌≤◌, [], ◌∷◌, ◌++◌, length, IfOk, if◌then◌else◌, MatchResult, nat_lt};
+ghost use Rattle.std.specs.List.{flat_map};
 ghost use Rattle.refusal.specs.Told.{answer_number};
-ghost use Rattle.loglines.specs.Memory.{put, Wrote};
+ghost use Rattle.loglines.specs.Memory.{put};
 ghost use Rattle.loglines.specs.Text.{opening, spaced, order_told, take_told, log_text, log_line};
 
+use arrayvec::ArrayVec;
+use itoa::{Buffer, Integer};
 use refusal::Refusal;
 
 // No line has more bytes, its last one, byte 10, among them.
 pub const ROOM: usize = 64;
 
 // What one line of the log says. A slot, and each number that a cue brought, stands as it was given.
-#[derive(Clone, Copy)]
+#[derive(Clone, Copy, PartialEq, Eq, Debug)]
 pub enum LogLine {
     // `S o H R`: an order for head H; where it is crowded, the span follows.
     Order {
@@ -54,7 +57,8 @@ pub enum LogLine {
         block: u32,
         attempt: u32,
     },
-    // `S e H cause`: the lane of head H ended; the cause is the number by which a report tells it.
+    // `S e H cause`: the lane of head H ended; the cause is the number by which a report tells it. A caller may have any
+    // number here and in a fault's: the fields are public, and an enum would ask more of it.
     Ended {
         slot: u32,
         head: u32,
@@ -77,6 +81,7 @@ pub enum LogLine {
 impl LogLine {
     // Writes the line at the start of `out` and answers how many bytes it has, never more than 64; refuses with Short
     // output where `out` is shorter than that.
+    #[tactic(auto, unfolding(crate::specs::Memory::put))]
     pub fn write(&self, out: &mut [u8]) -> Result<usize, Refusal>
         ensures answer { answer_number result ≡ (if nat_lt (length out.old) 64 then 19 else 0) }
         ensures value { MatchResult result (λ n. n ≡ length (log_line self.now)) (λ _. length out.old < 64) }
@@ -86,21 +91,24 @@ impl LogLine {
         if out.len() < ROOM {
             return Err(Refusal::ShortOutput);
         }
-        let end = self.write_text(out);
-        out[end] = b'\n';
-        Ok(end + 1)
+        let mut text = self.text();
+        text.bytes.push(b'\n');
+        let line = text.bytes.as_slice();
+        out[..line.len()].copy_from_slice(line);
+        Ok(line.len())
     }
 
-    // Writes the line's words and answers where they end.
-    fn write_text(&self, out: &mut [u8]) -> usize
-        requires { 64 ≤ length out.old }
-        ensures wrote { Wrote out.old 0 (log_text self.now) result out.new }
-        ensures short { result < 64 }
+    // The line without its end.
+    fn text(&self) -> Text
+        ensures text { result.bytes.items ≡ log_text self.now }
+        ensures short { length result.bytes.items < 64 }
     {
         match self {
             LogLine::Order { slot, head, answer } => {
-                let at = write_opening(out, *slot, b'o');
-                write_order(out, at, *head, answer)
+                let mut text = Text::opening(*slot, b'o');
+                text.numbers(&[*head]);
+                text.order_answer(answer);
+                text
             }
             LogLine::Take {
                 slot,
@@ -109,9 +117,10 @@ impl LogLine {
                 party,
                 answer,
             } => {
-                let at = write_opening(out, *slot, b't');
-                let after = write_numbers(out, at, &[*head, *block, *party]);
-                write_take(out, after, answer)
+                let mut text = Text::opening(*slot, b't');
+                text.numbers(&[*head, *block, *party]);
+                text.take_answer(answer);
+                text
             }
             LogLine::Give {
                 slot,
@@ -119,16 +128,21 @@ impl LogLine {
                 lease,
                 answer,
             } => {
-                let at = write_opening(out, *slot, b'g');
-                write_numbers(out, at, &[*party, *lease, number_of(answer)])
+                let mut text = Text::opening(*slot, b'g');
+                text.numbers(&[*party, *lease]);
+                text.numbers(&[number_of(answer)]);
+                text
             }
             LogLine::Close { slot, head, answer } => {
-                let at = write_opening(out, *slot, b'c');
-                write_numbers(out, at, &[*head, number_of(answer)])
+                let mut text = Text::opening(*slot, b'c');
+                text.numbers(&[*head]);
+                text.numbers(&[number_of(answer)]);
+                text
             }
             LogLine::Read { slot, head, block } => {
-                let at = write_opening(out, *slot, b'r');
-                write_numbers(out, at, &[*head, *block])
+                let mut text = Text::opening(*slot, b'r');
+                text.numbers(&[*head, *block]);
+                text
             }
             LogLine::Failed {
                 slot,
@@ -136,119 +150,126 @@ impl LogLine {
                 block,
                 attempt,
             } => {
-                let at = write_opening(out, *slot, b'f');
-                write_numbers(out, at, &[*head, *block, *attempt])
+                let mut text = Text::opening(*slot, b'f');
+                text.numbers(&[*head, *block, *attempt]);
+                text
             }
             LogLine::Ended { slot, head, cause } => {
-                let at = write_opening(out, *slot, b'e');
-                write_numbers(out, at, &[*head, *cause as u32])
+                let mut text = Text::opening(*slot, b'e');
+                text.numbers(&[*head]);
+                text.numbers(&[*cause]);
+                text
             }
             LogLine::Done {
                 slot,
                 attempts,
                 failed,
             } => {
-                out[0..4].copy_from_slice(b"done");
-                write_numbers(out, 4, &[*slot, *attempts, *failed])
+                let mut text = Text::new();
+                text.append(b"done");
+                text.numbers(&[*slot, *attempts, *failed]);
+                text
             }
             LogLine::BadList {
                 number,
                 line,
                 place,
-            } => write_fault(out, *number, *line, *place),
+            } => {
+                let mut text = Text::new();
+                text.number(*number);
+                text.numbers(&[*line, *place]);
+                text
+            }
         }
     }
 }
 
-// Writes the number, line and place of a fault.
-fn write_fault(out: &mut [u8], number: u8, line: usize, place: usize) -> usize
-    requires { 64 ≤ length out.old }
-    ensures wrote { Wrote out.old 0 (decimal number ++ spaced (line ∷ place ∷ [])) result out.new }
-    ensures short { result < 64 }
-{
-    let at = write_number(out, 0, number as u64);
-    out[at] = b' ';
-    let after = write_number(out, at + 1, line as u64);
-    out[after] = b' ';
-    write_number(out, after + 1, place as u64)
+// A line as it is put together. No `impl Display` does it: as far as a contract knows, `write!` may fail, and
+// `LogLine::write` cannot.
+#[derive(Drop)]
+struct Text {
+    bytes: ArrayVec<u8, ROOM>,
 }
 
-// Writes an order's head and answer from `at` on.
-fn write_order(out: &mut [u8], at: usize, head: u32, answer: &Result<(), Refusal>) -> usize
-    requires { (at ≤ 12) × (64 ≤ length out.old) }
-    ensures wrote { Wrote out.old at (spaced (head ∷ order_told answer.now)) result out.new }
-    ensures short { result < 64 }
-{
-    match answer {
-        Ok(()) => write_numbers(out, at, &[head, 0]),
-        Err(Refusal::Crowded(span)) => write_numbers(out, at, &[head, 6, span.l, span.h]),
-        Err(refusal) => write_numbers(out, at, &[head, refusal.number() as u32]),
-    }
-}
-
-// Writes a take's answer from `at` on.
-fn write_take(out: &mut [u8], at: usize, answer: &Result<u8, Refusal>) -> usize
-    requires { (at ≤ 45) × (64 ≤ length out.old) }
-    ensures wrote { Wrote out.old at (spaced (take_told answer.now)) result out.new }
-    ensures short { result < 64 }
-{
-    match answer {
-        Ok(lease) => {
-            out[at] = b' ';
-            out[at + 1] = b'0';
-            write_numbers(out, at + 2, &[*lease as u32])
+impl Text {
+    fn new() -> Text
+        ensures { result.bytes.items ≡ [] }
+    {
+        Text {
+            bytes: ArrayVec::new(),
         }
-        Err(refusal) => write_numbers(out, at, &[refusal.number() as u32]),
+    }
+
+    // The slot and the letter with which most lines begin.
+    fn opening(slot: u32, letter: u8) -> Text
+        ensures text { result.bytes.items ≡ opening slot letter }
+        ensures short { length result.bytes.items ≤ 12 }
+    {
+        let mut text = Text::new();
+        text.number(slot);
+        text.bytes.push(b' ');
+        text.bytes.push(letter);
+        text
+    }
+
+    // An order's answer: its number, and the span where it is crowded.
+    fn order_answer(&mut self, answer: &Result<(), Refusal>)
+        requires { length self.old.bytes.items + 26 ≤ 64 }
+        ensures text { self.new.bytes.items ≡ self.old.bytes.items ++ spaced (order_told answer.now) }
+        ensures short { length self.new.bytes.items ≤ length self.old.bytes.items + 26 }
+    {
+        self.numbers(&[number_of(answer)]);
+        if let Err(Refusal::Crowded(span)) = answer {
+            self.numbers(&[span.l, span.h]);
+        }
+    }
+
+    // A take's answer: its number, and the lease where it is granted.
+    fn take_answer(&mut self, answer: &Result<u8, Refusal>)
+        requires { length self.old.bytes.items + 8 ≤ 64 }
+        ensures text { self.new.bytes.items ≡ self.old.bytes.items ++ spaced (take_told answer.now) }
+        ensures short { length self.new.bytes.items ≤ length self.old.bytes.items + 8 }
+    {
+        match answer {
+            Ok(lease) => self.numbers(&[0, *lease]),
+            Err(refusal) => self.numbers(&[refusal.number()]),
+        }
+    }
+
+    // Each number after a space.
+    fn numbers<I: Integer>(&mut self, numbers: &[I])
+        requires { length self.old.bytes.items + (I.MAX_STR_LEN + 1) * length numbers.now ≤ 64 }
+        ensures text { self.new.bytes.items ≡ self.old.bytes.items ++ flat_map (λ n. 32 ∷ I.text n) numbers.now }
+        ensures short { length self.new.bytes.items ≤ length self.old.bytes.items + (I.MAX_STR_LEN + 1) * length numbers.now }
+    {
+        for number in numbers {
+            self.bytes.push(b' ');
+            self.number(*number);
+        }
+    }
+
+    fn number<I: Integer>(&mut self, number: I)
+        requires { length self.old.bytes.items + I.MAX_STR_LEN ≤ 64 }
+        ensures text { self.new.bytes.items ≡ self.old.bytes.items ++ I.text number }
+        ensures short { length self.new.bytes.items ≤ length self.old.bytes.items + I.MAX_STR_LEN }
+    {
+        self.append(Buffer::new().format(number).as_bytes());
+    }
+
+    fn append(&mut self, bytes: &[u8])
+        requires { length self.old.bytes.items + length bytes.now ≤ 64 }
+        ensures { self.new.bytes.items ≡ self.old.bytes.items ++ bytes.now }
+    {
+        self.bytes.try_extend_from_slice(bytes).unwrap();
     }
 }
 
 // 0 where the answer is granted, else the refusal's number.
-fn number_of(answer: &Result<(), Refusal>) -> u32
+fn number_of(answer: &Result<(), Refusal>) -> u8
     ensures value { result ≡ answer_number answer.now }
-    ensures small { result ≤ 19 }
 {
     match answer {
         Ok(()) => 0,
-        Err(refusal) => refusal.number() as u32,
+        Err(refusal) => refusal.number(),
     }
-}
-
-// Writes the slot and the letter with which most lines begin, and answers where they end.
-fn write_opening(out: &mut [u8], slot: u32, letter: u8) -> usize
-    requires { 12 ≤ length out.old }
-    ensures wrote { Wrote out.old 0 (opening slot letter) result out.new }
-    ensures short { result ≤ 12 }
-{
-    let at = write_number(out, 0, slot as u64);
-    out[at] = b' ';
-    out[at + 1] = letter;
-    at + 2
-}
-
-// Writes each number after a space, from `at` on, and answers where they end.
-fn write_numbers(out: &mut [u8], at: usize, numbers: &[u32]) -> usize
-    requires { at + 11 * length numbers.now ≤ length out.old }
-    ensures wrote { Wrote out.old at (spaced numbers.now) result out.new }
-    ensures short { result ≤ at + 11 * length numbers.now }
-{
-    let mut end = at;
-    for number in numbers {
-        out[end] = b' ';
-        end = write_number(out, end + 1, *number as u64);
-    }
-    end
-}
-
-// Writes the digits of a number at `at`, and answers where they end.
-fn write_number(out: &mut [u8], at: usize, number: u64) -> usize
-    requires { at + length (decimal number) ≤ length out.old }
-    ensures { Wrote out.old at (decimal number) result out.new }
-{
-    if number < 10 {
-        out[at] = b'0' + number as u8;
-        return at + 1;
-    }
-    let last = write_number(out, at, number / 10);
-    out[last] = b'0' + (number % 10) as u8;
-    last + 1
 }

@@ -1,15 +1,25 @@
-use Rattle.std.proofs.Common.{◌≡◌, length, Some, sym, ap, ◌∙◌}
-use Rattle.cues.specs.Forms.{letter_form}
-use Rattle.cues.specs.Reading.{left, end}
-use Rattle.cues.specs.Tokens.{token_says, token_place}
-use Rattle.cues.proofs.Forms.{after_slot_letter}
+use Rattle.std.proofs.Common.{refl, ap, ◌∙◌}
+use Rattle.std.proofs.lemmas.Result.{err_from_is_err_and}
+use Rattle.cues.specs.Forms.{order, take_block}
+use Rattle.cues.specs.Tokens.{token_says}
+use Rattle.cues.specs.Words.{letter}
+use Rattle.cues.proofs.Forms.{call_made}
 use Rattle.cues.proofs.reading.Words.call.Goals as goal
 
-pub returns-in-Letter : goal.returns-in-Letter
-returns-in-Letter c =
-    let told = c.in-Ok.ensures in
-    let after = c.next.new.self in
-    let ends : end after ≡ end c.args.self.now = ap (λ r. length r.now) told.line in
-    let place = sym (ap token_place c.in-Letter.is) in
-    c.cue.ensures ∙ (λ j. letter_form (ends j) (Some c.args.slot) c.in-Letter.letter (place j) (left after))
-    ∙ sym (after_slot_letter _ _ c.in-Ok.token _ c.args.slot c.in-Letter.letter told.next (ap token_says c.in-Letter.is))
+pub returns-in_err-head-in-Letter-default-default-o : goal.returns-in_err-head-in-Letter-default-default-o
+returns-in_err-head-in-Letter-default-default-o c =
+    let arm = c.in-Letter-default-default-o in
+    let exit = c.from_residual-in_err-head-in-Letter-default-default-o in
+    let p = err_from_is_err_and exit.result exit.ensures.1 in
+    let made = call_made _ _ c.args.slot 111 7 (order c.args.slot) c.in_ok-next.field-0 _ c.in_ok-next.ensures.next c.in_ok-next.ensures.line (ap token_says arm.is ∙ ap letter arm.letter-test) (λ e at ws. refl) c.in_err-head-in-Letter-default-default-o.ensures in
+    rw (p.1, p.2) made
+
+pub returns-in_ok-head-in-Letter-default-default-o : goal.returns-in_ok-head-in-Letter-default-default-o
+returns-in_ok-head-in-Letter-default-default-o c =
+    let arm = c.in-Letter-default-default-o in
+    call_made _ _ c.args.slot 111 7 (order c.args.slot) c.in_ok-next.field-0 _ c.in_ok-next.ensures.next c.in_ok-next.ensures.line (ap token_says arm.is ∙ ap letter arm.letter-test) (λ e at ws. refl) c.in_ok-head-in-Letter-default-default-o.ensures
+
+pub returns-in_ok-head-in-Letter-default-default-t : goal.returns-in_ok-head-in-Letter-default-default-t
+returns-in_ok-head-in-Letter-default-default-t c =
+    let arm = c.in-Letter-default-default-t in
+    call_made _ _ c.args.slot 116 3 (take_block c.args.slot) c.in_ok-next.field-0 _ c.in_ok-next.ensures.next c.in_ok-next.ensures.line (ap token_says arm.is ∙ ap letter arm.letter-test) (λ e at ws. refl) c.in_ok-head-in-Letter-default-default-t.ensures

@@ -1,4 +1,5 @@
 use Rattle.std.proofs.Common.{ℕ, length, Err, sym, ap, ◌∙◌, arith, length-set}
+use Rattle.std.proofs.lemmas.Result.{err_from_is_err_and}
 use Rattle.cues.specs.Forms.{numbers}
 use Rattle.cues.specs.Reading.{left, end}
 use Rattle.cues.specs.Tokens.{token_says, token_place}
@@ -7,35 +8,36 @@ use Rattle.cues.proofs.Forms.{turn_number, turn_letter, turn_err, end_none, end_
 use Rattle.cues.proofs.reading.Words.numbers.Goals as goal
 
 pub loop-number-preserved : goal.loop-number-preserved
-loop-number-preserved c =
+loop-number-preserved g c =
     let l = c.loop-number in
-    let told = c.in-Ok.ensures in
-    let size = length-set l.into l.number-index c.in-Number.value in
-    let turn = turn_number _ l.into l.number-index _ _ _ _ (sym (ap (λ r. length r.now) l.invariant.0)) (omega arith) l.invariant.1 c.in-Ok.token c.in-Number.value told.next (ap token_says c.in-Number.is) in
-    (told.line ∙ l.invariant.0, ap (λ (k : ℕ). numbers k (end c.args.self.now) (left c.args.self.now)) size ∙ turn)
+    let told = c.in_ok-value.ensures in
+    let size = length-set l.number-items l.number-index c.in-Number.value in
+    let turn = turn_number _ l.number-items l.number-index _ _ _ _ (sym (ap (λ r. length r.now) l.invariant.0)) (omega arith) l.invariant.2 c.in_ok-value.field-0 c.in-Number.value told.next (ap token_says c.in-Number.is) in
+    (told.line ∙ l.invariant.0, size ∙ l.invariant.1, ap (λ (k : ℕ). numbers k (end c.args.self.now) (left c.args.self.now)) size ∙ turn)
+
+pub returns-in_err-value : goal.returns-in_err-value
+returns-in_err-value g c =
+    let l = c.loop-number in
+    let told = c.in_err-value.ensures in
+    let p = err_from_is_err_and c.from_residual.result c.from_residual.ensures.1 in
+    let turn = turn_err _ l.number-items l.number-index _ _ _ _ (sym (ap (λ r. length r.now) l.invariant.0)) (omega arith) l.invariant.2 c.in_err-value.field-0.0 told.next in
+    rw (p.1, p.2) (sym (ap (λ (k : ℕ). numbers k (end c.args.self.now) (left c.args.self.now)) (sym l.invariant.1) ∙ turn))
 
 pub returns-in-Letter : goal.returns-in-Letter
-returns-in-Letter c =
+returns-in-Letter g c =
     let l = c.loop-number in
-    let told = c.in-Ok.ensures in
-    let turn = turn_letter _ l.into l.number-index _ _ _ _ (sym (ap (λ r. length r.now) l.invariant.0)) (omega arith) l.invariant.1 c.in-Ok.token _ told.next (ap token_says c.in-Letter.is) in
-    ap (λ (k : ℕ). numbers k (end c.args.self.now) (left c.args.self.now)) (sym l.auto.into) ∙ turn ∙ ap (λ (t : Token). Err (token_place t)) c.in-Letter.is
-
-pub returns-in-Err : goal.returns-in-Err
-returns-in-Err c =
-    let l = c.loop-number in
-    let told = c.in-Err.ensures in
-    let turn = turn_err _ l.into l.number-index _ _ _ _ (sym (ap (λ r. length r.now) l.invariant.0)) (omega arith) l.invariant.1 c.in-Err.place told.next in
-    ap (λ (k : ℕ). numbers k (end c.args.self.now) (left c.args.self.now)) (sym l.auto.into) ∙ turn
+    let told = c.in_ok-value.ensures in
+    let turn = turn_letter _ l.number-items l.number-index _ _ _ _ (sym (ap (λ r. length r.now) l.invariant.0)) (omega arith) l.invariant.2 c.in_ok-value.field-0 _ told.next (ap token_says c.in-Letter.is) in
+    sym (ap (λ (k : ℕ). numbers k (end c.args.self.now) (left c.args.self.now)) (sym l.invariant.1) ∙ turn ∙ ap (λ (t : Token). Err (token_place t)) c.in-Letter.is)
 
 pub returns-in-None : goal.returns-in-None
-returns-in-None c =
+returns-in-None g c =
     let l = c.loop-number in
-    let read = end_none _ l.into l.self.line.now l.number-index _ l.self.at (omega arith) l.invariant.1 c.in-None.is in
-    ap (λ (k : ℕ). numbers k (end c.args.self.now) (left c.args.self.now)) (sym l.auto.into) ∙ read
+    let read = end_none _ l.number-items l.self.line.now l.number-index _ l.self.at (omega arith) l.invariant.2 c.in-None.is in
+    sym (ap (λ (k : ℕ). numbers k (end c.args.self.now) (left c.args.self.now)) (sym l.invariant.1) ∙ read)
 
 pub returns-in-Some : goal.returns-in-Some
-returns-in-Some c =
+returns-in-Some g c =
     let l = c.loop-number in
-    let read = end_some _ l.into l.self.line.now l.number-index _ l.self.at (omega arith) l.invariant.1 c.in-Some.place c.in-Some.is in
-    ap (λ (k : ℕ). numbers k (end c.args.self.now) (left c.args.self.now)) (sym l.auto.into) ∙ read
+    let read = end_some _ l.number-items l.self.line.now l.number-index _ l.self.at (omega arith) l.invariant.2 c.in-Some.place c.in-Some.is in
+    sym (ap (λ (k : ℕ). numbers k (end c.args.self.now) (left c.args.self.now)) (sym l.invariant.1) ∙ read)

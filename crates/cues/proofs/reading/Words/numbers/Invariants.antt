@@ -5,6 +5,7 @@ use Rattle.cues.proofs.Forms.{with_front}
 use Rattle.cues.proofs.reading.Words.numbers.Given as goal
 
 abbrev pub invariant-loop-number : goal.invariant-loop-number
-invariant-loop-number l =
+invariant-loop-number g l =
     (l.self.line ≡ l.initial.self.line)
-    × (numbers (length l.into) (end l.initial.self) (left l.initial.self) ≡ with_front (take l.number-index l.into) (numbers (length l.into - l.number-index) (end l.initial.self) (left l.self)))
+    × (length l.number-items ≡ g.row.N)
+    × (numbers (length l.number-items) (end l.initial.self) (left l.initial.self) ≡ with_front (take l.number-index l.number-items) (numbers (length l.number-items - l.number-index) (end l.initial.self) (left l.self)))
