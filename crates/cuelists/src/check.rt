@@ -1,7 +1,6 @@
 // What an operator wants to know of a list before a job: its first fault, or its calls in the order in which they run.
 ghost use Rattle.std.specs.Prelude.{◌≡◌, Some, IfOk, string_bytes};
-ghost use Rattle.queue.specs.Held.{held, Sound};
-ghost use Rattle.cuelists.specs.Dues.{due_before};
+ghost use Rattle.queue.specs.Held.{held};
 ghost use Rattle.cuelists.specs.Checks.{calls_text, check_text};
 
 use crate::due::Due;
@@ -26,7 +25,6 @@ pub fn check_list(heap: Global, input: &[u8]) -> Result<String, AllocError>
 
 // Each call that waits as its line, and their number.
 fn in_order(heap: Global, queue: &mut Queue<Due>) -> Result<String, AllocError>
-    requires { Sound due_before queue.old }
     ensures { IfOk result (λ text. string_bytes text ≡ calls_text (held queue.old)) }
 {
     let count = queue.len();

@@ -3,9 +3,8 @@ ghost use Rattle.std.specs.Prelude.{◌≡◌, true, false, Some, ◌∷◌, len
 ghost use Rattle.std.specs.List.Sorted.{IsPermutation};
 ghost use Rattle.refusal.specs.Told.{told};
 ghost use Rattle.layers.specs.Entries.{listed, add_number, add_after};
-ghost use Rattle.queue.specs.Held.{held, room, Sound};
+ghost use Rattle.queue.specs.Held.{held, room};
 ghost use Rattle.cues.specs.Forms.{line_cue};
-ghost use Rattle.cuelists.specs.Dues.{due_before};
 ghost use Rattle.cuelists.specs.Laws.{WellFormedListsAreRead};
 ghost use Rattle.cuelists.specs.Lists.{reason_number, fault_told, fault_place, fault_words, fault, most, sofar, cue_read, list_read, Took, Reads};
 ghost use Rattle.cuelists.specs.declared.list.Reason.TheVariants.{BadEntry, Full};
@@ -101,7 +100,6 @@ pub fn read_list(
 ) -> Result<(), ListFault>
     ensures reads { Reads (list_read (room queue.old) (listed entries.old) (held queue.old) input.now) result (listed entries.new) (held queue.new) }
     ensures room { room queue.new ≡ room queue.old }
-    ensures sound { Sound due_before queue.old → Sound due_before queue.new }
     ensures always { WellFormedListsAreRead }
 {
     if input.len() > MOST_BYTES {
@@ -127,7 +125,6 @@ fn read_line(
 ) -> Result<bool, ListFault>
     ensures took { Took (sofar (listed entries.old) (held queue.old) begun) (cue_read (most (room queue.old)) line (line_cue begun text.now) (sofar (listed entries.old) (held queue.old) begun)) result (listed entries.new) (held queue.new) }
     ensures room { room queue.new ≡ room queue.old }
-    ensures sound { Sound due_before queue.old → Sound due_before queue.new }
 {
     let cue = read_cue(text, begun).map_err(|place| ListFault {
         reason: Reason::BadCue { place },
@@ -156,7 +153,6 @@ fn put(due: Due, queue: &mut Queue<Due>) -> Result<bool, ListFault>
     ensures answer { result ≡ (if nat_lt (length (held queue.old)) (most (room queue.old)) then Ok true else Err (fault Full due.line)) }
     ensures held { MatchResult result (λ _. IsPermutation (due ∷ held queue.old) (held queue.new)) (λ _. held queue.new ≡ held queue.old) }
     ensures room { room queue.new ≡ room queue.old }
-    ensures sound { Sound due_before queue.old → Sound due_before queue.new }
 {
     let full = ListFault {
         reason: Reason::Full,

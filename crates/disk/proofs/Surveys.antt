@@ -14,7 +14,6 @@ worn_none : (c : ToCome) (k : Block) → k.coming ≡ c → none_coming c ≡ tr
 worn_none (failures n) k e h = let z : n - 1 ≡ n = grind (arith, nat_tests) in grind (arith, nat_tests)
 worn_none dead k e h = grind (arith, nat_tests)
 
--- a read that fills the memory, said as a survey says it
 -- the first i blocks of the disk m are surveyed
 pub record SurveyedTo (F : ℕ → Fault → Type 0) (i : ℕ) (m : List Block) (us : List Unread) (m' : List Block) : Type 0 where
   pub blocks : map block_of us ≡ filter (fails_at m) (range_with_len 0 i)

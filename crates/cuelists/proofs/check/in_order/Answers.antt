@@ -14,11 +14,11 @@ pub loop-due-preserved : goal.loop-due-preserved
 loop-due-preserved c =
     let l = c.loop-due in
     let told = c.in-Some.ensures in
-    (told.sound l.invariant.0, printed_more (string_bytes l.text) _ _ (held l.queue) (held c.pop.new.self) c.in-Some.due (told.foremost l.invariant.0) told.held c.in_ok-writeln.ensures.bytes l.invariant.1)
+    printed_more (string_bytes l.text) _ _ (held l.queue) (held c.pop.new.self) c.in-Some.due told.foremost told.held c.in_ok-writeln.ensures.bytes l.invariant
 
 pub returns : goal.returns
 returns c =
     let l = c.loop-due in
     let told = c.in_default.ensures in
-    let lines = printed_all (string_bytes l.text) _ (held l.queue) told.held.0 l.invariant.1 in
+    let lines = printed_all (string_bytes l.text) _ (held l.queue) told.held.0 l.invariant in
     c.in_ok-writeln-2.ensures.bytes ∙ (λ i. lines i ++ (decimal (c.len-count.ensures.value i) ++ 10 ∷ []))
