@@ -5,7 +5,7 @@ ghost use Rattle.history.specs.Calls.{answered, reported, leased, lease_told, ho
 ghost use Rattle.bench.specs.Model.{world};
 
 use crate::lane::step;
-use crate::quiet::{any_live, lease_lapse};
+use crate::quiet::any_live;
 use crate::state::Bench;
 use disk::Disk;
 use history::{Cause, Event, Lane, Lease, Report, Stage};
@@ -84,8 +84,7 @@ impl<D: Disk> Bench<D> {
             return Err(Refusal::LeasesOut);
         }
         let lease = Some(new_lease(&lane, head, block, party, slip));
-        let own = lease_lapse(self.now, &self.lanes, &lease);
-        self.lapse = self.lapse.min(own);
+        self.lapse = 0;
         self.quiet = 0;
         self.leases[number] = lease;
         Ok(number as u8)

@@ -30,7 +30,7 @@ invariant_of-self g c =
       resting = every_set_none (rests b.quiet) b.lanes c.args.head b.resting;
       unheld = all_later_close b.now b.lapse b.lanes b.leases c.args.head b.unheld;
       sooner = b.sooner;
-      alive = c.any_live-self.ensures.value;
+      alive = c.any_live-self.ensures;
     }
 
 pub returns : goal.returns

@@ -1,4 +1,4 @@
-use Rattle.std.proofs.Common.{◌≡◌, ℕ, true, List, sym, refl, ap, ◌∙◌, subst, arith}
+use Rattle.std.proofs.Common.{◌≡◌, ℕ, true, List, set, Some, sym, refl, ap, ◌∙◌, subst, arith}
 use Rattle.std.proofs.lemmas.Bool.{lt-ltb}
 use Rattle.std.proofs.lemmas.Bool.Decides.{nat_tests}
 use Rattle.history.specs.Bench.{lane_at}
@@ -6,7 +6,7 @@ use Rattle.history.specs.Calls.{with_leases, honours}
 use Rattle.bench.specs.Model.{world}
 use Rattle.bench.specs.Quiet.{rests}
 use Rattle.bench.specs.Sound.{lane_ok, lease_ok}
-use Rattle.bench.proofs.Rests.{every_true, rests_zero, all_later_lend}
+use Rattle.bench.proofs.Rests.{every_true, rests_zero, all_later_zero}
 use Rattle.bench.proofs.Sound.{every_at, every_set_some, live_kept, there_live, buffer_below}
 use Rattle.bench.proofs.Lends.{take_off_limits, take_empty, take_gone, take_out, take_lent, lent_honoured}
 use Rattle.bench.proofs.state.Bench.lend.Goals as goal
@@ -50,7 +50,7 @@ invariant_of-self g c =
       safe = b.safe;
       lent = every_set_some lease_ok b.leases c.first_vacant-number.result c.new_lease.result b.lent lease;
       resting = every_true (rests 0) rests_zero b.lanes;
-      unheld = all_later_lend b.now b.lapse c.lease_lapse-own.result _ b.lanes b.leases c.first_vacant-number.result c.new_lease.result (omega arith) (omega arith) b.unheld c.lease_lapse-own.ensures;
+      unheld = all_later_zero b.now b.lanes (set b.leases c.first_vacant-number.result (Some c.new_lease.result));
       sooner = omega arith;
       alive = b.alive;
     }
