@@ -61,11 +61,6 @@ fault_in Idle = no_fault
 fault_in (Read h i) = no_fault
 fault_in (Failed h i a f) = f
 
-abbrev pub fault_told : Result Ticked Refusal → Fault
-fault_told (Ok r) = fault_in r
-fault_told (Err e) = no_fault
-
--- the same of an answer that tells too which lanes ended
 abbrev pub tick_fault : Result Tick Refusal → Fault
 tick_fault (Ok t) = fault_in t.did
 tick_fault (Err e) = no_fault

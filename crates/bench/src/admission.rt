@@ -1,7 +1,7 @@
 // Admitting an order: the checks, and the lane that it begins.
 ghost use Rattle.std.specs.Prelude.{◌≡◌, ℕ, ◌≤◌, List, ◌∷◌, length, Ok};
 ghost use Rattle.bench.specs.Admits.{lane_uses, lease_uses, LowestOrTooFew, CanBeTried};
-ghost use Rattle.bench.specs.Orders.{asking, OrderedExactlyWithinLimits};
+ghost use Rattle.bench.specs.Orders.{OrderedExactlyWithinLimits};
 ghost use Rattle.history.specs.Bench.{some_and, in_use, free, works};
 ghost use Rattle.history.specs.Calls.{answered, done, admit, charged_with, new_work};
 ghost use Rattle.bench.specs.Model.{world};
@@ -13,7 +13,7 @@ use arrayvec::ArrayVec;
 use disk::Disk;
 use history::{Asked, Lane, Lease, Stage};
 use refusal::{Refusal, Span};
-use schedule::{Timing, Work, overfull};
+use schedule::{Work, overfull};
 
 impl<D: Disk> Bench<D> {
     // Admits an order: its head has a live lane from now on, with the lowest buffers that are free.
@@ -55,40 +55,13 @@ impl<D: Disk> Bench<D> {
 }
 
 impl Order {
-    // `count` blocks of the disk from `first` on for a head, block i to burn for `period` slots from
-    // `start` + i·`period` on, through `depth` buffers, each block with `spare` attempts more than one.
-    pub fn new(
-        head: u32,
-        first: u32,
-        count: u32,
-        start: u32,
-        period: u32,
-        depth: u32,
-        spare: u32,
-    ) -> Result<Order, Refusal>
-        ensures { OrderedExactlyWithinLimits (asking head first count start period depth spare) result }
+    // What is asked, where its numbers are within the limits of every order.
+    pub fn new(asked: Asked) -> Result<Order, Refusal>
+        ensures { OrderedExactlyWithinLimits asked result }
     {
-        let timing = Timing {
-            count,
-            start,
-            period,
-            depth,
-            spare,
-        };
-        if head > 7 {
+        if asked.head > 7 || asked.first > 4095 || !asked.timing.within_limits() {
             return Err(Refusal::Bounds);
         }
-        if first > 4095 {
-            return Err(Refusal::Bounds);
-        }
-        if !timing.within_limits() {
-            return Err(Refusal::Bounds);
-        }
-        let asked = Asked {
-            head,
-            first,
-            timing,
-        };
         Ok(Order { asked })
     }
 }

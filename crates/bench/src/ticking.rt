@@ -7,7 +7,7 @@ ghost use Rattle.history.specs.Requests.{Requested};
 ghost use Rattle.bench.specs.Model.{world};
 ghost use Rattle.bench.specs.Quiet.{settled};
 ghost use Rattle.bench.specs.Sound.{every, lane_ok, live_ok};
-ghost use Rattle.bench.specs.Ticks.{deadline_of, head_of, RequestOf, Offered, chosen_by, may_end, Alive, EndedSince, fault_in, fault_told, tick_fault, failures_in, FaultAt, ToldBy, ToldFrom, TickToldFrom, Attempted};
+ghost use Rattle.bench.specs.Ticks.{deadline_of, head_of, RequestOf, Offered, chosen_by, may_end, Alive, EndedSince, fault_in, tick_fault, failures_in, FaultAt, ToldBy, TickToldFrom, Attempted};
 
 use crate::lane::step;
 use crate::quiet::{any_live, is_live, lent_until, next_lapse, quiet_until};
@@ -21,20 +21,8 @@ use schedule::Timing;
 use std::array;
 
 impl<D: Disk> Bench<D> {
-    // One slot: at most one read, and then the burns that end.
-    pub fn tick(&mut self, pool: &mut [u8]) -> Result<Ticked, Refusal>
-        ensures answer { answered ticked result ≡ (tick (world D.Disk.meaning pool.old self.entry.now) (fault_told result)).1 }
-        ensures bench { world D.Disk.meaning pool.new self.exit.now ≡ (tick (world D.Disk.meaning pool.old self.entry.now) (fault_told result)).0 }
-        ensures origin { ToldFrom (D.Disk.faults self.entry.now.disk) self.entry.now.lanes result }
-    {
-        match self.tick_with_ends(pool) {
-            Ok(tick) => Ok(tick.did),
-            Err(refusal) => Err(refusal),
-        }
-    }
-
-    // The same, and which lanes the slot ended.
-    pub fn tick_with_ends(&mut self, pool: &mut [u8]) -> Result<Tick, Refusal>
+    // One slot: at most one read, and then the burns that end; what the disk did, and which lanes the slot ended.
+    pub fn tick(&mut self, pool: &mut [u8]) -> Result<Tick, Refusal>
         ensures answer { answered (λ t. ticked t.did) result ≡ (tick (world D.Disk.meaning pool.old self.entry.now) (tick_fault result)).1 }
         ensures bench { world D.Disk.meaning pool.new self.exit.now ≡ (tick (world D.Disk.meaning pool.old self.entry.now) (tick_fault result)).0 }
         ensures ended { IfOk result (λ t. t.ended ≡ ends self.entry.now.lanes self.exit.now.lanes) }

@@ -6,7 +6,7 @@ use Rattle.bench.specs.Model.{world}
 use Rattle.bench.specs.Ticks.{no_fault, fault_in}
 use Rattle.bench.proofs.Rests.{all_later_sooner, quiet_choice, quiet_lanes, ends_none}
 use Rattle.bench.proofs.Ticks.{tick_served, served_idle, passed_is, ends_told}
-use Rattle.bench.proofs.state.Bench.tick_with_ends.Goals as goal
+use Rattle.bench.proofs.state.Bench.tick.Goals as goal
 
 pub returns-then-pool-ne2048 : goal.returns-then-pool-ne2048
 unfolding tick
