@@ -1,22 +1,21 @@
 -- What admission does to a bench.
-use Rattle.std.proofs.Common.{◌≡◌, ℕ, zero, suc, ◌+◌, ◌-◌, ◌<◌, ◌≤◌, Bool, true, false, cond, not, ◌||◌, eqb, ltb, List, [], ◌∷◌, ◌++◌, length, get_or, take, drop, set, replicate, is_some, Some, None, Ok, filter, Option, sym, refl, ap, ◌∙◌, subst, arith}
-use Rattle.std.specs.List.{range_with_len, AllByRecursion}
-use Rattle.std.proofs.lemmas.List.{append-nil, append_assoc, length-take-le, length-append, length-take, take_all, take-append-le, set_at, take_more, take_more_set, at_drop_more, at_drop_all}
+use Rattle.std.proofs.Common.{◌≡◌, ℕ, zero, suc, ◌+◌, ◌-◌, ◌<◌, ◌≤◌, Bool, true, false, cond, not, ◌||◌, eqb, ltb, List, [], ◌∷◌, ◌++◌, length, get_or, take, drop, replicate, is_some, Some, None, Ok, filter, Option, refl, ap, ◌∙◌, subst, arith}
+use Rattle.std.specs.List.{range_with_len, AllByRecursion, list_any}
+use Rattle.std.proofs.lemmas.List.{length-append, length-take, at_drop_more}
 use Rattle.std.proofs.lemmas.Bool.{lt-ltb, le-ltb, and_from}
 use Rattle.std.proofs.lemmas.Bool.Decides.{nat_tests}
 use Rattle.refusal.specs.declared.Refusal.TheVariants.{HeadTaken, Past, OffDisk, PoolShort, Crowded}
 use Rattle.refusal.specs.declared.Span.{Span}
 use Rattle.std.proofs.lemmas.List.FromFn.{get_or-range_with_len}
 use Rattle.std.proofs.lemmas.List.Elements.{filter_more}
-use Rattle.history.specs.Bench.{any, some_and, has, in_use, free, is_live, work, works}
+use Rattle.history.specs.Bench.{has, in_use, free, is_live, work, works}
 use Rattle.history.specs.Bench.{World}
 use Rattle.history.specs.Calls.{Answer, done, refuse, checked, new_lane, new_work, charged_with, span_told, before_crowded, no_room, admitted, admit}
 use Rattle.history.proofs.Buffers.{free_small}
 use Rattle.history.proofs.Checks.{Passes, last_decides}
 use Rattle.history.proofs.Spans.{ends, tried_is}
 use Rattle.history.specs.declared.Asked.{Asked}
-use Rattle.history.specs.declared.Stage.{Stage}
-use Rattle.history.specs.declared.Stage.TheVariants.{Live, Finished, Faulted, Held, Closed}
+use Rattle.history.specs.declared.Stage.TheVariants.{Live}
 use Rattle.schedule.specs.Answers.{Limits, FirstOverfullOrNone}
 use Rattle.schedule.specs.Orders.{Proper, WithinLimits}
 use Rattle.schedule.specs.declared.Timing.{Timing}
@@ -26,99 +25,39 @@ use Rattle.bench.specs.Sound.{every, timing_ok, order_ok, all_below, live_ok, la
 use Rattle.history.specs.declared.Lane.{Lane}
 use Rattle.history.specs.declared.Lease.{Lease}
 
--- p of one that is there, one place on and at the end
-module _ {A : Type 0} (p : A → Bool) where
-  pub any_more : (os : List (Option A)) (k : ℕ) → k < length os → any p (drop k os) ≡ (some_and p (get_or os k None) || any p (drop (k + 1) os))
-  any_more os k h = at_drop_more (any p) os k None h
+-- THE FREE BUFFERS
 
-  pub any_end : (os : List (Option A)) (k : ℕ) → length os ≤ k → any p (drop k os) ≡ false
-  any_end os k h = at_drop_all (any p) os k h
+pub has_is : (x : ℕ) (ys : List ℕ) → list_any (eqb x) ys ≡ has x ys
+has_is x [] = refl
+has_is x (y ∷ ys) = ap (λ b. eqb x y || b) (has_is x ys)
 
--- a number among the first ones
-pub has_more : (x : ℕ) (ys : List ℕ) (k : ℕ) → k < length ys → has x (take (k + 1) ys) ≡ (has x (take k ys) || eqb x (get_or ys k 0))
-has_more x ys k h = ap (has x) (take_more ys k 0 h) ∙ push (take k ys)
+filter_few : {A : Type 0} (p : A → Bool) (xs : List A) → length (filter p xs) ≤ length xs
+filter_few p [] = omega arith
+filter_few p (x ∷ xs) = let r = filter_few p xs in by (p x) r
   where
-    push : (zs : List ℕ) → has x (zs ++ get_or ys k 0 ∷ []) ≡ (has x zs || eqb x (get_or ys k 0))
-    push [] = grind (arith, nat_tests)
-    push (z ∷ zs) = let r = push zs in grind (arith, nat_tests)
+    by : (b : Bool) → length (filter p xs) ≤ length xs → length (cond b (x ∷ filter p xs) (filter p xs)) ≤ suc (length xs)
+    by true r = omega arith
+    by false r = omega arith
 
-pub has_at : (x : ℕ) (ys : List ℕ) (k n : ℕ) → k < length ys → k < n → x ≡ get_or ys k 0 → has x (take n ys) ≡ true
-has_at x [] k n h lt e = absurd (omega arith)
-has_at x (y ∷ ys) k zero h lt e = absurd (omega arith)
-has_at x (y ∷ ys) zero (suc n) h lt e = grind (arith, nat_tests)
-has_at x (y ∷ ys) (suc k) (suc n) h lt e = let r = has_at x ys k n (omega arith) (omega arith) e in grind (arith, nat_tests)
-
--- THE LOWEST FREE BUFFERS
-
--- bs begins with the first n of xs, or as many as there are, which is found, and has zeros after them
-pub record Gathered (xs : List ℕ) (n found : ℕ) (bs : List ℕ) : Type 0 where
-  pub number : found ≡ length (take n xs)
-  pub are : bs ≡ take n xs ++ replicate (8 - found) 0
-
-module _ (xs : List ℕ) (n found : ℕ) (bs : List ℕ) (g : Gathered xs n found bs) where
-  pub gathered_full : (ys : List ℕ) → n ≤ found → Gathered (xs ++ ys) n found bs
-  gathered_full ys full =
-      let many : n ≤ length xs = omega (arith, g.number, length-take n xs) in
-      let e : take n (xs ++ ys) ≡ take n xs = take-append-le n xs ys many in
-      record { number = g.number ∙ sym (ap length e); are = g.are ∙ sym (ap (λ zs. zs ++ replicate (8 - found) 0) e) }
-
-  pub gathered_put : (x : ℕ) → found < n → n ≤ 8 → Gathered (xs ++ x ∷ []) n (found + 1) (set bs found x)
-  gathered_put x room few =
-      let count : found ≡ length xs = omega (arith, g.number, length-take n xs) in
-      let long : length (xs ++ x ∷ []) ≡ found + 1 = length-append xs (x ∷ []) ∙ omega arith in
-      let all : take n xs ≡ xs = take_all n xs (omega arith) in
-      let more : take n (xs ++ x ∷ []) ≡ xs ++ x ∷ [] = take_all n (xs ++ x ∷ []) (omega arith) in
-      let left : 8 - found ≡ suc (8 - (found + 1)) = omega arith in
-      let was : bs ≡ xs ++ 0 ∷ replicate (8 - (found + 1)) 0 = g.are ∙ ap (λ zs. zs ++ replicate (8 - found) 0) all ∙ ap (λ m. xs ++ replicate m 0) left in
-      record {
-        number = sym (ap length more ∙ long);
-        are = ap (λ zs. set zs found x) was ∙ set_at xs 0 (replicate (8 - (found + 1)) 0) x found (sym count)
-            ∙ sym (ap (λ zs. zs ++ replicate (8 - (found + 1)) 0) more ∙ append_assoc xs (x ∷ []) (replicate (8 - (found + 1)) 0));
-      }
-
-module _ (ls : List (Option Lane)) (es : List (Option Lease)) where
+-- the free ones of the first k, and of one more
+module _ (ls : List (Option Lane)) (es : List (Option Lease)) (k : ℕ) (h : k < 32) where
   abbrev is_free : ℕ → Bool
   is_free x = not (in_use ls es x)
 
-  -- the free ones of the first k
-  abbrev pub free_below : ℕ → List ℕ
-  free_below k = filter (λ x. not (in_use ls es x)) (take k (range_with_len 0 32))
+  abbrev below : ℕ → List ℕ
+  below n = filter is_free (take n (range_with_len 0 32))
 
-  free_more : (k : ℕ) → k < 32 → free_below (k + 1) ≡ free_below k ++ cond (is_free k) (k ∷ []) []
-  free_more k h =
-      subst (λ x. free_below (k + 1) ≡ free_below k ++ cond (is_free x) (x ∷ []) []) (get_or-range_with_len 0 32 k 0 h ∙ omega arith) (filter_more is_free (range_with_len 0 32) k 0 h)
+  pub free_few : length (below k) < 32
+  free_few = omega (arith, filter_few is_free (take k (range_with_len 0 32)), length-take k (range_with_len 0 32))
 
-  pub gathering_none : (n : ℕ) → Gathered (free_below 0) n 0 (replicate 8 0)
-  gathering_none zero = record { number = refl; are = refl }
-  gathering_none (suc n) = record { number = refl; are = refl }
+  pub free_more : (b : Bool) → in_use ls es k ≡ b → below (k + 1) ≡ below k ++ cond (not b) (k ∷ []) []
+  free_more b e =
+      subst (λ x. below (k + 1) ≡ below k ++ cond (is_free x) (x ∷ []) []) (get_or-range_with_len 0 32 k 0 h ∙ omega arith) (filter_more is_free (range_with_len 0 32) k 0 h)
+      ∙ ap (λ b. below k ++ cond (not b) (k ∷ []) []) e
 
-  module _ (k n found : ℕ) (bs : List ℕ) (h : k < 32) (g : Gathered (free_below k) n found bs) where
-    pub gathering_full : n ≤ found → Gathered (free_below (k + 1)) n found bs
-    gathering_full full = rw free_more (gathered_full (free_below k) n found bs g (cond (is_free k) (k ∷ []) []) full)
-
-    pub gathering_past : in_use ls es k ≡ true → Gathered (free_below (k + 1)) n found bs
-    gathering_past e = subst (λ xs. Gathered xs n found bs) (sym (free_more k h ∙ ap (λ b. free_below k ++ cond (not b) (k ∷ []) []) e ∙ append-nil (free_below k))) g
-
-    pub gathering_put : in_use ls es k ≡ false → found < n → n ≤ 8 → Gathered (free_below (k + 1)) n (found + 1) (set bs found k)
-    gathering_put e room few =
-        subst (λ xs. Gathered xs n (found + 1) (set bs found k)) (sym (free_more k h ∙ ap (λ b. free_below k ++ cond (not b) (k ∷ []) []) e)) (gathered_put (free_below k) n found bs g k room few)
-
-  module _ (k n found : ℕ) (bs : List ℕ) (h : k ≡ 32) (g : Gathered (free_below k) n found bs) where
-    whole : free_below k ≡ free ls es
-    unfolding free
-    whole = ap free_below h
-
-    all : Gathered (free ls es) n found bs
-    all = subst (λ xs. Gathered xs n found bs) whole g
-
-    pub gathered_few : found < n → length (free ls es) < n
-    gathered_few few = omega (arith, all.number, length-take n (free ls es))
-
-    pub gathered_all : n ≤ found → n ≤ 8 → (n ≤ length (free ls es)) × (bs ≡ take n (free ls es) ++ replicate (8 - n) 0)
-    gathered_all enough few =
-        let many : n ≤ length (free ls es) = omega (arith, all.number, length-take n (free ls es)) in
-        let same : found ≡ n = all.number ∙ length-take-le n (free ls es) many in
-        (many, all.are ∙ ap (λ m. take n (free ls es) ++ replicate (8 - m) 0) same)
+pub free_whole : (ls : List (Option Lane)) (es : List (Option Lease)) (k : ℕ) → k ≡ 32 → filter (λ x. not (in_use ls es x)) (take k (range_with_len 0 32)) ≡ free ls es
+unfolding free
+free_whole ls es k h = ap (λ n. filter (λ x. not (in_use ls es x)) (take n (range_with_len 0 32))) h
 
 -- WHAT IS CHARGED
 
@@ -166,42 +105,12 @@ tried_within slot o ls c = record {
   proper = (record { timing = order_limits o c.order; admitted = c.start; next = omega arith; failed = omega arith }, works_proper ls c.safe);
 }
 
-pub not_live : (s : Stage) → (s ≡ Live → ⊥) → is_live s ≡ false
-not_live Live n = absurd (n refl)
-not_live Finished n = refl
-not_live (Faulted f) n = refl
-not_live Held n = refl
-not_live Closed n = refl
-
--- what is left of the lanes from place k on, one place on
-module _ (ls : List (Option Lane)) (k : ℕ) (h : k < length ls) where
-  works_at : (o : Option Lane) → get_or ls k None ≡ o → works (drop k ls) ≡ works (o ∷ drop (k + 1) ls)
-  works_at o e = at_drop_more works ls k None h ∙ ap (λ x. works (x ∷ drop (k + 1) ls)) e
-
-  pub works_empty : get_or ls k None ≡ None → works (drop k ls) ≡ works (drop (k + 1) ls)
-  works_empty e = works_at None e
-
-  module _ (l : Lane) (e : get_or ls k None ≡ Some l) where
-    works_by : (b : Bool) → is_live l.stage ≡ b → works (drop k ls) ≡ cond b (work l ∷ works (drop (k + 1) ls)) (works (drop (k + 1) ls))
-    works_by b p = works_at (Some l) e ∙ ap (λ x. cond x (work l ∷ works (drop (k + 1) ls)) (works (drop (k + 1) ls))) p
-
-    pub works_ended : is_live l.stage ≡ false → works (drop k ls) ≡ works (drop (k + 1) ls)
-    works_ended p = works_by false p
-
-    pub works_live : is_live l.stage ≡ true → works (drop k ls) ≡ work l ∷ works (drop (k + 1) ls)
-    works_live p = works_by true p
-
--- the first n of all, and then rest, are as many as ws
-module _ (all rest ws : List Work) (n : ℕ) (long : length all ≡ 8) (few : n ≤ 8) (w : Work) (is : take n all ++ w ∷ rest ≡ ws) where
-  pub put_room : length ws ≤ 8 → n < 8
-  put_room most = omega (arith, ap length is, length-append (take n all) (w ∷ rest), length-take-le n all (omega arith))
-
-  pub put_more : n < 8 → take (n + 1) (set all n w) ++ rest ≡ ws
-  put_more room = ap (λ x. x ++ rest) (take_more_set all n w (omega arith)) ∙ append_assoc (take n all) (w ∷ []) rest ∙ is
-
--- the part of all that counts
-pub part_is : (all ws : List Work) (n : ℕ) → take n all ≡ ws → take (n - 0) all ≡ ws
-part_is all ws n e = let z : n - 0 ≡ n = omega arith in ap (λ m. take m all) z ∙ e
+-- where another lane is live, there is room for it
+pub works_room : (ls : List (Option Lane)) (k : ℕ) (l : Lane) (xs ws : List Work) → k < length ls → get_or ls k None ≡ Some l → l.stage ≡ Live → xs ++ works (drop k ls) ≡ ws → length ws ≤ 8 → length xs < 8
+works_room ls k l xs ws lt is live e few =
+    let next : works (drop k ls) ≡ work l ∷ works (drop (k + 1) ls) =
+    at_drop_more works ls k None lt ∙ ap (λ x. works (x ∷ drop (k + 1) ls)) is ∙ ap (λ s. cond (is_live s) (work l ∷ works (drop (k + 1) ls)) (works (drop (k + 1) ls))) live in
+    omega (arith, ap length e, length-append xs (works (drop k ls)), ap length next)
 
 -- a head without a lane leaves at most seven live ones
 works_few : (ls : List (Option Lane)) → length (works ls) ≤ length ls

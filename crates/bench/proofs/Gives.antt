@@ -1,8 +1,15 @@
 -- What give and show answer and leave, check by check.
-use Rattle.std.proofs.Common.{◌≡◌, ℕ, Bool, true, false, not, ◌&&◌, ◌||◌, eqb, ltb, length, refl}
+use Rattle.std.proofs.Common.{◌≡◌, ℕ, Bool, true, false, not, ◌&&◌, ◌||◌, eqb, ltb, length, Err, Result, refl, ap, ◌∙◌}
+use Rattle.std.specs.Result.{IsErrAnd}
+use Rattle.std.proofs.lemmas.Result.{err_from_is_err_and}
+use Rattle.refusal.specs.declared.Refusal.{Refusal}
 use Rattle.refusal.specs.declared.Refusal.TheVariants.{Bounds, WrongSize, NotHeld}
 use Rattle.history.specs.Bench.{World}
 use Rattle.history.specs.Calls.{Slip, refuse, done, is_out, given, shows, give, show, give_slip, show_slip}
+
+-- a refusal that a call passes on
+pub passed_on : {T : Type 0} (r : Result T Refusal) (e x : Refusal) → IsErrAnd r (λ y. y ≡ e) → e ≡ x → r ≡ Err x
+passed_on r e x h is = let p = err_from_is_err_and r h in p.1 ∙ ap Err (p.2 ∙ is)
 
 module _ (w : World) (party m : ℕ) where
   abbrev pub off_limits : Bool

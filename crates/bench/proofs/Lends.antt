@@ -1,8 +1,15 @@
 -- What a take answers and leaves, check by check.
-use Rattle.std.proofs.Common.{◌≡◌, ℕ, Bool, true, false, not, ◌||◌, ltb, leb, length, get_or, is_some, None, sym, refl, ap, ◌∙◌}
+use Rattle.std.proofs.Common.{◌≡◌, ℕ, ◌+◌, ◌<◌, ◌≤◌, Bool, true, false, cond, not, ◌||◌, ltb, leb, List, [], ◌∷◌, length, get_or, is_some, Some, None, Option, sym, refl, ap, ◌∙◌, subst, arith, MatchResult}
+use Rattle.std.specs.List.{position, position_or_len}
+use Rattle.std.specs.Option.{ok_or}
+use Rattle.std.proofs.lemmas.List.Recursion.{is_position_or_len}
+use Rattle.history.specs.declared.Lane.{Lane}
+use Rattle.history.specs.declared.Lease.{Lease}
+use Rattle.bench.specs.Sound.{live_ok}
+use Rattle.std.proofs.lemmas.Bool.Decides.{nat_tests}
 use Rattle.refusal.specs.declared.Refusal.TheVariants.{Bounds, NotThere, LeasesOut, HeadEmpty}
 use Rattle.history.specs.Bench.{World, lane_at}
-use Rattle.std.proofs.lemmas.Bool.{false≢true}
+use Rattle.std.proofs.lemmas.Bool.{false≢true, cond_both, ltb-true, ltb-false}
 use Rattle.history.proofs.Slips.{taken_honoured}
 use Rattle.history.specs.Calls.{honours, refuse, there, vacant, taken, lease_told, take_block}
 
@@ -43,3 +50,34 @@ pub lent_honoured : (w : World) (h i party : ℕ) (slip : Bool) (m : ℕ) → le
     → honours (take_block w h i party slip).0 (record { lease = m; bench = w.number; party = party }) ≡ true
 lent_honoured w h i party true m len is n e = taken_honoured w h i party _ len (e ∙ ap (λ k. lease_told w.number k party true) (sym n))
 lent_honoured w h i party false m len is n e = absurd (false≢true is)
+
+-- THE LOWEST FREE LEASE
+
+abbrev is_free : Option Lease → Bool
+is_free o = not (is_some o)
+
+vacant_is : (es : List (Option Lease)) → vacant es ≡ position_or_len is_free es
+vacant_is es = is_position_or_len vacant is_free refl step es
+  where
+    step : (o : Option Lease) (es : List (Option Lease)) → vacant (o ∷ es) ≡ cond (is_free o) 0 (1 + vacant es)
+    step None es = refl
+    step (Some e) es = omega arith
+
+vacant_most : (es : List (Option Lease)) → vacant es ≤ length es
+vacant_most [] = omega arith
+vacant_most (None ∷ es) = omega arith
+vacant_most (Some e ∷ es) = omega (arith, vacant_most es)
+
+abbrev pub Lowest : List (Option Lease) → Option ℕ → Type 0
+Lowest es r = MatchResult (ok_or r LeasesOut) (λ m. (m ≡ vacant es) × (m < length es)) (λ e. (vacant es ≡ length es) × (e ≡ LeasesOut))
+
+pub vacant_found : (es : List (Option Lease)) (r : Option ℕ) → r ≡ position is_free es → Lowest es r
+vacant_found es r is =
+    subst (Lowest es) (sym (is ∙ ap (λ n. cond (ltb n (length es)) (Some n) None) (sym (vacant_is es))))
+    (cond_both (ltb (vacant es) (length es)) (Some (vacant es)) None (Lowest es)
+    (λ t. (refl, ltb-true (vacant es) (length es) t)) (λ f. let most = vacant_most es in let past = ltb-false (vacant es) (length es) f in (omega arith, refl)))
+
+-- A LEASE OF A LIVE LANE
+
+pub lendable : (l : Lane) → live_ok l ≡ true → (l.order.first < 4096) × (0 < l.order.timing.depth) × (l.order.timing.depth ≤ 8)
+lendable l ok = (grind (arith, nat_tests), grind (arith, nat_tests), grind (arith, nat_tests))

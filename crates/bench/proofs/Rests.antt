@@ -1,102 +1,73 @@
 -- A slot in which nothing happens, and how long none does.
-use Rattle.std.proofs.Common.{◌≡◌, ℕ, zero, suc, ◌+◌, ◌-◌, ◌<◌, ◌≤◌, Bool, true, false, cond, not, ◌&&◌, ◌||◌, eqb, ltb, List, [], ◌∷◌, map, length, get_or, take, set, replicate, Some, None, Option, sym, refl, ap, ◌∙◌, subst, add-one, arith}
+use Rattle.std.proofs.Common.{◌≡◌, ℕ, zero, suc, ◌+◌, ◌<◌, ◌≤◌, Bool, true, false, cond, not, ◌&&◌, ◌||◌, eqb, ltb, List, [], ◌∷◌, map, length, get_or, set, replicate, Some, None, Option, sym, refl, ap, ◌∙◌, subst, arith}
 use Rattle.std.proofs.lemmas.List.FromFn.{fill_by_all}
-use Rattle.std.proofs.lemmas.Bool.{and_parts, false≢true, cond_both}
+use Rattle.std.proofs.lemmas.Bool.{and_parts, and_from, false≢true, cond_both}
 use Rattle.std.proofs.lemmas.Bool.Decides.{nat_tests}
-use Rattle.schedule.specs.Orders.{deadline, release}
-use Rattle.schedule.specs.declared.Timing.{Timing}
+use Rattle.schedule.specs.Orders.{deadline}
 use Rattle.history.specs.declared.Event.{Event}
 use Rattle.history.specs.declared.Event.TheVariants.{FailedAttempt, BlockRead, BurnEnd, Close}
 use Rattle.history.specs.declared.Lane.{Lane}
 use Rattle.history.specs.declared.Lease.{Lease}
 use Rattle.history.specs.declared.Stage.{Stage}
-use Rattle.history.specs.declared.Stage.TheVariants.{Live, Finished, Faulted, Held, Closed}
+use Rattle.history.specs.declared.Stage.TheVariants.{Finished, Faulted, Held, Closed}
 use Rattle.history.specs.Bench.{any, is_live, running, lane_in, lane_at}
 use Rattle.history.specs.Calls.{moved, on_live, happens, holds_up, changed, aged, all_aged, due, choice, cause_of, how_ended, ends}
-use Rattle.history.proofs.Choosing.{choice_none, deadline_up}
+use Rattle.history.proofs.Choosing.{choice_none}
 use Rattle.history.proofs.Histories.{same_at}
-use Rattle.bench.specs.Quiet.{if_some, rests, later, all_later}
-use Rattle.bench.specs.Sound.{every, live_ok, lane_ok}
-use Rattle.bench.proofs.Sound.{live_kept, every_set_none, every_set_some}
-
-and_first : (a b : Bool) → (a && b) ≡ true → a ≡ true
-and_first true b e = refl
-and_first false b e = e
-
-and_second : (a b : Bool) → (a && b) ≡ true → b ≡ true
-and_second true b e = e
-and_second false b e = absurd (false≢true e)
-
-and_both : (a b : Bool) → a ≡ true → b ≡ true → (a && b) ≡ true
-and_both true b e h = h
-and_both false b e h = e
+use Rattle.bench.specs.Quiet.{rests, later, all_later, quiet_of, lapse_of}
+use Rattle.bench.specs.Sound.{every}
+use Rattle.bench.proofs.Sound.{every_set_none, every_set_some}
 
 -- TESTS OF EVERY ONE
+
+-- p of what is there, if something is
+abbrev pub if_some : {A : Type 0} → (A → Bool) → Option A → Bool
+if_some p None = true
+if_some p (Some a) = p a
 
 module _ {A : Type 0} where
   pub every_true : (p : A → Bool) → ((a : A) → p a ≡ true) → (os : List (Option A)) → every p os ≡ true
   every_true p k [] = refl
   every_true p k (None ∷ os) = every_true p k os
-  every_true p k (Some a ∷ os) = and_both (p a) _ (k a) (every_true p k os)
+  every_true p k (Some a ∷ os) = and_from (p a) _ (k a) (every_true p k os)
 
   pub every_weaker : (p q : A → Bool) → ((a : A) → p a ≡ true → q a ≡ true) → (os : List (Option A)) → every p os ≡ true → every q os ≡ true
   every_weaker p q k [] e = refl
   every_weaker p q k (None ∷ os) e = every_weaker p q k os e
-  every_weaker p q k (Some a ∷ os) e = and_both (q a) _ (k a (and_first (p a) _ e)) (every_weaker p q k os (and_second (p a) _ e))
+  every_weaker p q k (Some a ∷ os) e = and_from (q a) _ (k a (and_parts (p a) _ e).0) (every_weaker p q k os (and_parts (p a) _ e).1)
 
   pub every_both : (p q r : A → Bool) → ((a : A) → p a ≡ true → q a ≡ true → r a ≡ true) → (os : List (Option A)) → every p os ≡ true → every q os ≡ true → every r os ≡ true
   every_both p q r k [] e f = refl
   every_both p q r k (None ∷ os) e f = every_both p q r k os e f
   every_both p q r k (Some a ∷ os) e f =
-      and_both (r a) _ (k a (and_first (p a) _ e) (and_first (q a) _ f)) (every_both p q r k os (and_second (p a) _ e) (and_second (q a) _ f))
+      and_from (r a) _ (k a (and_parts (p a) _ e).0 (and_parts (q a) _ f).0) (every_both p q r k os (and_parts (p a) _ e).1 (and_parts (q a) _ f).1)
 
   pub every_if : (p : A → Bool) (os : List (Option A)) (k : ℕ) → every p os ≡ true → if_some p (get_or os k None) ≡ true
   every_if p [] k e = refl
   every_if p (None ∷ os) zero e = refl
-  every_if p (Some a ∷ os) zero e = and_first (p a) _ e
+  every_if p (Some a ∷ os) zero e = (and_parts (p a) _ e).0
   every_if p (None ∷ os) (suc k) e = every_if p os k e
-  every_if p (Some a ∷ os) (suc k) e = every_if p os k (and_second (p a) _ e)
-
-  every_take : (p : A → Bool) (os : List (Option A)) (k : ℕ) → every p (take k os) ≡ true → if_some p (get_or os k None) ≡ true → every p (take (suc k) os) ≡ true
-  every_take p [] k e f = refl
-  every_take p (None ∷ os) zero e f = refl
-  every_take p (Some a ∷ os) zero e f = and_both (p a) true f refl
-  every_take p (None ∷ os) (suc k) e f = every_take p os k e f
-  every_take p (Some a ∷ os) (suc k) e f = and_both (p a) _ (and_first (p a) _ e) (every_take p os k (and_second (p a) _ e) f)
-
-  -- p, which holds below where it holds, of one more
-  pub every_more : (p : ℕ → A → Bool) → ((t r : ℕ) (a : A) → r ≤ t → p t a ≡ true → p r a ≡ true) → (os : List (Option A)) (k t own r : ℕ) → r ≤ t → r ≤ own
-      → every (p t) (take k os) ≡ true → if_some (p own) (get_or os k None) ≡ true → every (p r) (take (k + 1) os) ≡ true
-  every_more p lower os k t own r le le' e f =
-      subst (λ n. every (p r) (take n os) ≡ true) (sym (add-one k))
-      (every_take (p r) os k (every_weaker (p t) (p r) (λ a. lower t r a le) (take k os) e) (one (get_or os k None) f))
-    where
-      one : (o : Option A) → if_some (p own) o ≡ true → if_some (p r) o ≡ true
-      one None q = refl
-      one (Some a) q = lower own r a le' q
+  every_if p (Some a ∷ os) (suc k) e = every_if p os k (and_parts (p a) _ e).1
 
   pub every_changed : (p q : A → Bool) (f : A → A) → ((a : A) → p a ≡ true → q (f a) ≡ true) → (os : List (Option A)) → every p os ≡ true → every q (map (changed f) os) ≡ true
   every_changed p q f k [] e = refl
   every_changed p q f k (None ∷ os) e = every_changed p q f k os e
-  every_changed p q f k (Some a ∷ os) e = and_both (q (f a)) _ (k a (and_first (p a) _ e)) (every_changed p q f k os (and_second (p a) _ e))
+  every_changed p q f k (Some a ∷ os) e = and_from (q (f a)) _ (k a (and_parts (p a) _ e).0) (every_changed p q f k os (and_parts (p a) _ e).1)
 
   any_none : (p q : A → Bool) → ((a : A) → p a ≡ true → q a ≡ false) → (os : List (Option A)) → every p os ≡ true → any q os ≡ false
   any_none p q k [] e = refl
   any_none p q k (None ∷ os) e = any_none p q k os e
-  any_none p q k (Some a ∷ os) e = (λ i. k a (and_first (p a) _ e) i || any q os) ∙ any_none p q k os (and_second (p a) _ e)
+  any_none p q k (Some a ∷ os) e = (λ i. k a (and_parts (p a) _ e).0 i || any q os) ∙ any_none p q k os (and_parts (p a) _ e).1
 
   same_changed : (p : A → Bool) (f : A → A) → ((a : A) → p a ≡ true → f a ≡ a) → (os : List (Option A)) → every p os ≡ true → map (changed f) os ≡ os
   same_changed p f k [] e = refl
   same_changed p f k (None ∷ os) e = ap (λ xs. None ∷ xs) (same_changed p f k os e)
-  same_changed p f k (Some a ∷ os) e = λ i. Some (k a (and_first (p a) _ e) i) ∷ same_changed p f k os (and_second (p a) _ e) i
+  same_changed p f k (Some a ∷ os) e = λ i. Some (k a (and_parts (p a) _ e).0 i) ∷ same_changed p f k os (and_parts (p a) _ e).1 i
 
 -- REST
 
 pub rests_zero : (l : Lane) → rests 0 l ≡ true
 rests_zero l = grind (arith, nat_tests)
-
-pub rests_lower : (q r : ℕ) (l : Lane) → r ≤ q → rests q l ≡ true → rests r l ≡ true
-rests_lower q r l le e = grind (arith, nat_tests)
 
 pub later_lower : (now t r : ℕ) (l : Lane) (e : Lease) → r ≤ t → later now t l e ≡ true → later now r l e ≡ true
 later_lower now t r l e le h = grind (arith, nat_tests)
@@ -126,20 +97,6 @@ all_unheld s t (Some l ∷ ls) es lt e =
     same_if (is_live l.stage) (on_live l (BurnEnd false last)) (on_live l (BurnEnd (any (holds_up s l) es) last)) l
     (λ live. ap (λ held. on_live l (BurnEnd held last)) (sym (none_holds s t s l es (omega arith) lt live both.0))) in
     λ i. Some (own i) ∷ all_unheld s t ls es lt both.1 i
-
-pub one_lower : (now t r : ℕ) (l : Lane) (o : Option Lease) → r ≤ t → if_some (later now t l) o ≡ true → if_some (later now r l) o ≡ true
-one_lower now t r l None le h = refl
-one_lower now t r l (Some e) le h = later_lower now t r l e le h
-
--- of what is on a head, and no lease or one more
-pub lane_none : (o : Option Lane) → if_some (λ l. true) o ≡ true
-lane_none None = refl
-lane_none (Some l) = refl
-
-pub lane_more : (now t own r : ℕ) (o : Option Lane) (es : List (Option Lease)) (m : ℕ) → r ≤ t → r ≤ own
-    → if_some (λ l. every (later now t l) (take m es)) o ≡ true → if_some (λ l. if_some (later now own l) (get_or es m None)) o ≡ true → if_some (λ l. every (later now r l) (take (m + 1) es)) o ≡ true
-lane_more now t own r None es m le le' e f = refl
-lane_more now t own r (Some l) es m le le' e f = every_more (λ t e. later now t l e) (λ t r e. later_lower now t r l e) es m t own r le le' e f
 
 -- WHAT HAPPENS TO A LANE KEEPS ITS LEASES APART
 
@@ -197,22 +154,8 @@ module _ (now q t : ℕ) (ls : List (Option Lane)) (es : List (Option Lease)) (l
   pub quiet_lanes : all_aged (suc now) es ls ≡ ls
   quiet_lanes =
       same_changed (λ l. rests q l && every (later now t l) es) (aged (suc now) es)
-      (λ l h. quiet_aged l (and_first (rests q l) _ h) (and_second (rests q l) _ h)) ls
-      (every_both (rests q) (λ l. every (later now t l) es) (λ l. rests q l && every (later now t l) es) (λ l. and_both (rests q l) _) ls rest apart)
-
--- a block of a live lane is released by the end of its burns
-pub release_small : (l : Lane) → live_ok l ≡ true → l.next < l.order.timing.count → release l.order.timing l.admitted l.next ≤ 1000000
-release_small l ok lt =
-    let o : Timing = l.order.timing in
-    let start : l.admitted ≤ o.start = grind (arith, nat_tests) in
-    let deep : 2 ≤ o.depth = grind (arith, nat_tests) in
-    let last : deadline o o.count ≤ 1000000 = grind (arith, nat_tests) in
-    cond_both (ltb l.next o.depth) l.admitted (deadline o (l.next - o.depth + 1)) (λ x. x ≤ 1000000)
-    (λ _. omega arith) (λ _. omega (arith, deadline_up o (l.next - o.depth + 1) o.count (omega arith)))
-
--- of what is on a head, if it is a live lane
-pub some_ok : (o : Option Lane) (l : Lane) → o ≡ Some l → l.stage ≡ Live → if_some lane_ok o ≡ true → live_ok l ≡ true
-some_ok o l is live e = live_kept l (subst (λ x. if_some lane_ok x ≡ true) is e) (ap is_live live)
+      (λ l h. quiet_aged l (and_parts (rests q l) _ h).0 (and_parts (rests q l) _ h).1) ls
+      (every_both (rests q) (λ l. every (later now t l) es) (λ l. rests q l && every (later now t l) es) (λ l. and_from (rests q l) _) ls rest apart)
 
 -- CHANGES OF ONE LANE OR LEASE
 
@@ -224,17 +167,6 @@ all_later_close now t ls es h e = every_set_none (λ l. every (later now t l) es
 
 pub all_later_give : (now t : ℕ) (ls : List (Option Lane)) (es : List (Option Lease)) (m : ℕ) → all_later now t ls es ≡ true → all_later now t ls (set es m None) ≡ true
 all_later_give now t ls es m e = every_weaker (λ l. every (later now t l) es) (λ l. every (later now t l) (set es m None)) (λ l h. every_set_none (later now t l) es m h) ls e
-
--- with the lease e besides, which is apart until `own`
-pub all_later_lend : (now t own r : ℕ) (ls : List (Option Lane)) (es : List (Option Lease)) (m : ℕ) (e : Lease) → r ≤ t → r ≤ own → all_later now t ls es ≡ true → every (λ l. later now own l e) ls ≡ true → all_later now r ls (set es m (Some e)) ≡ true
-all_later_lend now t own r ls es m e le le' f g =
-    every_both (λ l. every (later now r l) es) (λ l. later now own l e) (λ l. every (later now r l) (set es m (Some e)))
-    (λ l a b. every_set_some (later now r l) es m e a (later_lower now own r l e le' b)) ls (all_later_lower now t r ls es le f) g
-
--- with the lane l besides
-pub all_later_admit : (now t own r : ℕ) (ls : List (Option Lane)) (es : List (Option Lease)) (h : ℕ) (l : Lane) → r ≤ t → r ≤ own → all_later now t ls es ≡ true → every (later now own l) es ≡ true → all_later now r (set ls h (Some l)) es ≡ true
-all_later_admit now t own r ls es h l le le' f g =
-    all_later_lane now r ls es h l (all_later_lower now t r ls es le f) (every_weaker (later now own l) (later now r l) (λ e. later_lower now own r l e le') es g)
 
 pub running_set : (ls : List (Option Lane)) (h : ℕ) (l : Lane) → h < length ls → is_live l.stage ≡ true → running (set ls h (Some l)) ≡ true
 running_set [] h l lt e = absurd (omega arith)
@@ -259,3 +191,17 @@ pub ends_none : (ls ls' : List (Option Lane)) → ls' ≡ ls → replicate 8 Non
 ends_none ls ls' is =
     fill_by_all (λ h. how_ended (is_live (lane_at ls h).stage) (get_or ls' h None)) (replicate 8 None) 8 None refl
     (λ h _. same_at 8 h None ∙ sym (ap (λ xs. how_ended (is_live (lane_at ls h).stage) (get_or xs h None)) is ∙ none_ended (get_or ls h None)))
+
+-- UNTIL WHEN
+
+pub all_later_zero : (now : ℕ) (ls : List (Option Lane)) (es : List (Option Lease)) → all_later now 0 ls es ≡ true
+all_later_zero now ls es = every_true (λ l. every (later now 0 l) es) (λ l. every_true (later now 0 l) (λ e. later_zero l e) es) ls
+  where
+    later_zero : (l : Lane) (e : Lease) → later now 0 l e ≡ true
+    later_zero l e = grind (arith, nat_tests)
+
+pub quiet_rests : (never q r : ℕ) (l : Lane) → r ≡ quiet_of never l → q ≤ r → rests q l ≡ true
+quiet_rests never q r l is le = grind (arith, nat_tests)
+
+pub lapse_later : (never now t r : ℕ) (l : Lane) (e : Lease) → r ≡ lapse_of never now l e → t ≤ r → later now t l e ≡ true
+lapse_later never now t r l e is le = grind (arith, nat_tests)

@@ -1,9 +1,9 @@
 -- What a slot does to a bench.
-use Rattle.std.proofs.Common.{◌≡◌, ℕ, zero, suc, ◌+◌, ◌-◌, ◌*◌, ◌%◌, ◌<◌, ◌≤◌, Bool, true, false, cond, not, ◌&&◌, ◌||◌, eqb, ltb, leb, List, [], ◌∷◌, ◌++◌, map, length, get_or, take, drop, set, Some, None, Ok, Err, Option, Result, sym, refl, ap, ◌∙◌, subst, inl, inr, add-zero, add-one, arith, MatchOption, MatchResult}
+use Rattle.std.proofs.Common.{◌≡◌, ℕ, suc, ◌+◌, ◌-◌, ◌*◌, ◌%◌, ◌<◌, ◌≤◌, Bool, true, false, cond, not, ◌&&◌, ◌||◌, eqb, ltb, leb, List, [], ◌∷◌, ◌++◌, map, length, get_or, take, drop, set, Some, None, Ok, Err, Option, Result, sym, refl, ap, ◌∙◌, subst, inl, inr, add-zero, add-one, arith, MatchOption, MatchResult}
 use Rattle.std.proofs.ByRecursion.{All-weaker}
-use Rattle.std.proofs.lemmas.List.{append_assoc, append-nil, length-map, length-take, length-drop, take_all, drop_all, drop_more, drop-drop, take-append-drop, map_more, get_or_at, get_or-set_same, get_or-set_other, set_at, at_drop_more}
+use Rattle.std.proofs.lemmas.List.{append_assoc, append-nil, length-map, length-take, length-drop, take_all, drop_all, drop_more, drop-drop, take-append-drop, map_more, get_or_at, set_at}
 use native.Mathlib.Nat.{mul-mod_left}
-use Rattle.std.proofs.lemmas.Bool.{both_ways, cases_Bool, cases_eq, false≢true, cond_both, ltb-true}
+use Rattle.std.proofs.lemmas.Bool.{and_parts, both_ways, cases_Bool, cond_both, ltb-true}
 use Rattle.std.proofs.lemmas.Bool.Decides.{nat_tests}
 use Rattle.refusal.specs.Told.{refusal_number, answer_number}
 use Rattle.refusal.specs.declared.Fault.{Fault}
@@ -14,6 +14,8 @@ use Rattle.disk.specs.Meaning.{Block, Reads, block_at, none_coming, read_number,
 use Rattle.queue.specs.declared.request.ReadRequest.{ReadRequest}
 use Rattle.queue.specs.Order.{Foremost}
 use Rattle.schedule.specs.Orders.{deadline}
+use Rattle.std.proofs.lemmas.List.FromFn.{fill_by_all}
+use Rattle.history.specs.declared.Cause.{Cause}
 use Rattle.history.specs.declared.Event.TheVariants.{FailedAttempt, BlockRead, BurnEnd}
 use Rattle.history.specs.declared.Lane.{Lane}
 use Rattle.history.specs.declared.Lease.{Lease}
@@ -21,26 +23,22 @@ use Rattle.history.specs.declared.Stage.TheVariants.{Live, Finished, Faulted as 
 use Rattle.history.specs.declared.Ticked.{Ticked}
 use Rattle.history.specs.declared.Ticked.TheVariants.{Idle, Read, Failed}
 use Rattle.schedule.specs.declared.Timing.{Timing}
-use Rattle.history.specs.Bench.{World, any, some_and, is_live, lane_in, lane_at, buffer_of, written}
-use Rattle.history.specs.Calls.{ticked, happens, on_live, moved, ended, changed, aged, all_aged, due, choice, next_deadline, next_block, holds_up, passed, served, tick_checks, tick, Answer, attempted, read_done, read_failed}
+use Rattle.history.specs.Bench.{World, any, is_live, lane_in, lane_at, buffer_of, written}
+use Rattle.history.specs.Calls.{ticked, happens, on_live, moved, ended, aged, all_aged, due, choice, next_deadline, next_block, holds_up, passed, served, tick_checks, tick, Answer, attempted, read_done, read_failed, how_ended, ends}
 use Rattle.history.specs.Requests.{Requested}
 use Rattle.history.proofs.Checks.{passes}
 use Rattle.history.proofs.Choosing.{deadline_up, chosen, Chosen, Idle as NoneDue}
 use Rattle.history.proofs.Requests.{requested_first, requested_nothing}
 use Rattle.bench.specs.Quiet.{later, all_later, settled}
-use Rattle.bench.specs.Sound.{every, lane_ok, live_ok, order_ok, all_below}
-use Rattle.bench.specs.Ticks.{request_before, deadline_of, head_of, chosen_by, fault_in, failures_in, may_end, readable, FaultAt, ToldFrom, Attempted}
-use Rattle.bench.proofs.Rests.{all_later_sooner, all_later_lane, later_happens}
-use Rattle.bench.proofs.Sound.{every_at, every_set_some}
+use Rattle.bench.specs.Sound.{every, lane_ok, live_ok}
+use Rattle.bench.specs.Ticks.{request_before, deadline_of, head_of, chosen_by, fault_in, failures_in, may_end, readable, FaultAt, ToldFrom, Attempted, Alive, EndedSince}
+use Rattle.bench.proofs.Rests.{every_changed, all_later_sooner, all_later_lane, later_happens}
+use Rattle.bench.proofs.Sound.{every_at, every_set_some, live_kept, buffer_below}
 
 -- what stands on a head is sound
 pub ok_at : (os : List (Option Lane)) (h : ℕ) (o : Option Lane) → every lane_ok os ≡ true → get_or os h None ≡ o → lane_ok (lane_in o) ≡ true
 ok_at os h None e g = refl
 ok_at os h (Some l) e g = every_at lane_ok os h l e g
-
--- a test of any lease, one place on
-pub any_more : {A : Type 0} (p : A → Bool) (os : List (Option A)) (m : ℕ) → m < length os → any p (drop m os) ≡ (some_and p (get_or os m None) || any p (drop (m + 1) os))
-any_more p os m h = at_drop_more (any p) os m None h
 
 -- a list of which the first i are changed, and then one more
 module _ {A : Type 0} (f : A → A) (d : A) (xs ys : List A) (i : ℕ) (lt : i < length xs) (e : ys ≡ map f (take i xs) ++ drop i xs) where
@@ -64,26 +62,10 @@ module _ {A : Type 0} (f : A → A) (d : A) (xs ys : List A) (i : ℕ) (lt : i <
 pub changed_all : {A : Type 0} (f : A → A) (xs ys : List A) (i : ℕ) → length xs ≤ i → ys ≡ map f (take i xs) ++ drop i xs → ys ≡ map f xs
 changed_all f xs ys i all e = e ∙ ((λ j. map f (take_all i xs all j) ++ drop_all i xs all j) ∙ append-nil (map f xs))
 
--- a list of which the first i are f of their places, and then one more
-pub set_below : {A : Type 0} (f : ℕ → A) (d : A) (xs : List A) (i : ℕ) (x : A) → i < length xs → x ≡ f i → ((h : ℕ) → h < i → get_or xs h d ≡ f h) → (h : ℕ) → h < i + 1 → get_or (set xs i x) h d ≡ f h
-set_below f d xs i x lt e below h le = elim (cases_eq h i) [
-  | inl q ↦ subst (λ j. get_or (set xs i x) j d ≡ f j) (sym q) (get_or-set_same xs i x d lt ∙ e)
-  | inr q ↦ get_or-set_other xs i h x d q ∙ below h (omega arith)
-]
-
 -- LIVE LANES
 
-and_last : (a b c d : Bool) → c ≡ true → (a && (b && (not c || d))) ≡ true → d ≡ true
-and_last true true true d e h = h
-and_last true true false d e h = absurd (false≢true e)
-and_last true false c d e h = absurd (false≢true h)
-and_last false b c d e h = absurd (false≢true h)
-
-ok_live : (l : Lane) → is_live l.stage ≡ true → lane_ok l ≡ true → live_ok l ≡ true
-ok_live l e h = and_last (leb l.next 4096) (leb l.failed 16) (is_live l.stage) (live_ok l) e h
-
 pub live_from_ok : (o : Option Lane) (l : Lane) → o ≡ Some l → l.stage ≡ Live → lane_ok (lane_in o) ≡ true → live_ok l ≡ true
-live_from_ok o l is live ok = ok_live l (ap is_live live) (subst (λ x. lane_ok (lane_in x) ≡ true) is ok)
+live_from_ok o l is live ok = live_kept l (subst (λ x. lane_ok (lane_in x) ≡ true) is ok) (ap is_live live)
 
 ends_early : (l : Lane) → live_ok l ≡ true → l.order.timing.start + l.order.timing.count * l.order.timing.period ≤ 1000000
 ends_early l h = grind (arith, nat_tests)
@@ -111,43 +93,23 @@ chosen_due t ls q e = let k = subst (λ o. MatchOption o (NoneDue t ls) (Chosen 
 
 -- THE READ
 
-and_first : (a b : Bool) → (a && b) ≡ true → a ≡ true
-and_first true b e = refl
-and_first false b e = e
-
-and_second : (a b : Bool) → (a && b) ≡ true → b ≡ true
-and_second true b e = e
-and_second false b e = absurd (false≢true e)
-
-and_both : (a b : Bool) → a ≡ true → b ≡ true → (a && b) ≡ true
-and_both true b e h = h
-and_both false b e h = e
-
 and_keep : (a b y : Bool) → (a && (b && y)) ≡ true → (a && (b && true)) ≡ true
 and_keep true true y e = refl
 and_keep true false y e = e
 and_keep false b y e = e
 
-and_fifth : (a b c d e : Bool) → (a && (b && (c && (d && e)))) ≡ true → e ≡ true
-and_fifth a b c d e h = and_second d e (and_second c (d && e) (and_second b (c && (d && e)) (and_second a (b && (c && (d && e))) h)))
-
 -- a lane that is due is live and has a block unread
 due_live : (t : ℕ) (l : Lane) → due t l ≡ true → is_live l.stage ≡ true
-due_live t l e = and_first (is_live l.stage) _ e
+due_live t l e = (and_parts (is_live l.stage) _ e).0
 
 due_unread : (t : ℕ) (l : Lane) → due t l ≡ true → l.next < l.order.timing.count
-due_unread t l e = ltb-true l.next l.order.timing.count (and_first (ltb l.next l.order.timing.count) _ (and_second (is_live l.stage) _ e))
+due_unread t l e = ltb-true l.next l.order.timing.count (and_parts (ltb l.next l.order.timing.count) _ (and_parts (is_live l.stage) _ e).1).0
 
 due_found : (t : ℕ) (ls : List (Option Lane)) (h : ℕ) (l : Lane) → get_or ls h None ≡ Some l → due t (lane_at ls h) ≡ true → due t l ≡ true
 due_found t ls h l is e = subst (λ o. due t (lane_in o) ≡ true) is e
 
-below_at : (n : ℕ) (xs : List ℕ) (k : ℕ) → 0 < n → all_below n xs ≡ true → get_or xs k 0 < n
-below_at n [] k z e = z
-below_at n (x ∷ xs) zero z e = ltb-true x n (and_first (ltb x n) _ e)
-below_at n (x ∷ xs) (suc k) z e = below_at n xs k z (and_second (ltb x n) _ e)
-
 pub buffer_small : (l : Lane) (i : ℕ) → live_ok l ≡ true → buffer_of l i < 32
-buffer_small l i e = below_at 32 l.buffers (i % l.order.timing.depth) (omega arith) (and_fifth (order_ok l.order) (leb l.admitted l.order.timing.start) (leb l.next l.order.timing.count) (leb l.failed l.order.timing.spare) (all_below 32 l.buffers) e)
+buffer_small l i e = buffer_below l (i % l.order.timing.depth) e
 
 pub live_small : (l : Lane) → live_ok l ≡ true → (l.next < 2147483648) × (l.failed < 2147483648)
 live_small l e = (grind (arith, nat_tests), grind (arith, nat_tests))
@@ -242,13 +204,8 @@ aged_ok t es l ok =
     (λ _. cond_both held Held (cond last Finished l.stage) (λ s. LaneOk (ended l s)) (λ _. gone) (λ _. cond_both last Finished l.stage (λ s. LaneOk (ended l s)) (λ _. gone) (λ _. ok)))
     (λ _. ok)
 
-every_changed : {A : Type 0} (p : A → Bool) (f : A → A) → ((a : A) → p a ≡ true → p (f a) ≡ true) → (os : List (Option A)) → every p os ≡ true → every p (map (changed f) os) ≡ true
-every_changed p f k [] e = refl
-every_changed p f k (None ∷ os) e = every_changed p f k os e
-every_changed p f k (Some a ∷ os) e = and_both (p (f a)) (every p (map (changed f) os)) (k a (and_first (p a) (every p os) e)) (every_changed p f k os (and_second (p a) (every p os) e))
-
 pub all_aged_ok : (t : ℕ) (es : List (Option Lease)) (ls ls' : List (Option Lane)) → every lane_ok ls ≡ true → ls' ≡ all_aged t es ls → every lane_ok ls' ≡ true
-all_aged_ok t es ls ls' ok e = subst (λ xs. every lane_ok xs ≡ true) (sym e) (every_changed lane_ok (aged t es) (aged_ok t es) ls ok)
+all_aged_ok t es ls ls' ok e = subst (λ xs. every lane_ok xs ≡ true) (sym e) (every_changed lane_ok lane_ok (aged t es) (aged_ok t es) ls ok)
 
 pub failures_few : (r : Ticked) → failures_in r ≤ 1
 failures_few Idle = omega arith
@@ -257,7 +214,7 @@ failures_few (Failed h i a f) = omega arith
 
 -- of the lane that is due on a head, and of all lanes after its read
 pub due_ok : (t : ℕ) (ls : List (Option Lane)) (h : ℕ) (l : Lane) → every lane_ok ls ≡ true → get_or ls h None ≡ Some l → due t (lane_at ls h) ≡ true → (live_ok l ≡ true) × (l.next < l.order.timing.count)
-due_ok t ls h l ok is e = let d = due_found t ls h l is e in (ok_live l (due_live t l d) (every_at lane_ok ls h l ok is), due_unread t l d)
+due_ok t ls h l ok is e = let d = due_found t ls h l is e in (live_kept l (every_at lane_ok ls h l ok is) (due_live t l d), due_unread t l d)
 
 pub attempted_every : (t : ℕ) (ls : List (Option Lane)) (h : ℕ) (l : Lane) (m : List Block) (pool : List ℕ) (r : Ticked) (m' : List Block) (l' : Lane) (pool' : List ℕ) → every lane_ok ls ≡ true → get_or ls h None ≡ Some l → due t (lane_at ls h) ≡ true → Attempted m l h pool r m' l' pool' → every lane_ok (set ls h (Some l')) ≡ true
 attempted_every t ls h l m pool r m' l' pool' ok is e a =
@@ -272,13 +229,6 @@ tick_served w f len more =
     let size : not (eqb (length w.pool) 2048) ≡ false = grind (arith, nat_tests) in
     let time : eqb w.now 1000000 ≡ false = grind (arith, nat_tests) in
     passes w (tick_checks w) (served w f (choice w.now w.lanes)) (size, (time, tt))
-
--- nothing is chosen, or q
-pub tick_idle : (w : World) (f : Fault) → length w.pool ≡ 2048 → (w.now ≡ 1000000 → ⊥) → chosen_by None ≡ choice w.now w.lanes → (passed w ≡ (tick w f).0) × (ticked Idle ≡ (tick w f).1)
-tick_idle w f len more e = let s = sym (tick_served w f len more ∙ ap (served w f) (sym e)) in (ap (λ x. x.0) s, ap (λ x. x.1) s)
-
-pub tick_chosen : (w : World) (f : Fault) (q : ReadRequest) → length w.pool ≡ 2048 → (w.now ≡ 1000000 → ⊥) → chosen_by (Some q) ≡ choice w.now w.lanes → ((served w f (Some (q.head, 0))).0 ≡ (tick w f).0) × ((served w f (Some (q.head, 0))).1 ≡ (tick w f).1)
-tick_chosen w f q len more e = let s = sym (tick_served w f len more ∙ ap (served w f) (sym e)) in (ap (λ x. x.0) s, ap (λ x. x.1) s)
 
 pub served_idle : (w : World) (f : Fault) → chosen_by None ≡ choice w.now w.lanes → (passed w ≡ (served w f (choice w.now w.lanes)).0) × (ticked Idle ≡ (served w f (choice w.now w.lanes)).1)
 served_idle w f e = let s = ap (served w f) e in (ap (λ x. x.0) s, ap (λ x. x.1) s)
@@ -378,3 +328,9 @@ not_aged t es l none =
 
 pub period_some : (l : Lane) → live_ok l ≡ true → 1 ≤ l.order.timing.period
 period_some l e = grind (arith, nat_tests)
+
+-- THE LANES THAT END
+
+pub ends_told : (ls ls' : List (Option Lane)) (was : List Bool) (r : List (Option Cause)) → length r ≡ 8 → Alive ls was → EndedSince was ls' r → r ≡ ends ls ls'
+ends_told ls ls' was r long alive since =
+    fill_by_all (λ h. how_ended (is_live (lane_at ls h).stage) (get_or ls' h None)) r 8 None long (λ h lt. since h lt ∙ ap (λ b. how_ended b (get_or ls' h None)) (alive h lt))

@@ -16,7 +16,7 @@ use Rattle.history.specs.declared.Tick.{Tick}
 use Rattle.history.specs.declared.Ticked.{Ticked}
 use Rattle.history.specs.declared.Ticked.TheVariants.{Idle, Read, Failed}
 use Rattle.history.specs.Bench.{is_live, lane_at, buffer_of, written}
-use Rattle.history.specs.Calls.{due, happens, next_block, next_deadline, ends}
+use Rattle.history.specs.Calls.{due, happens, next_block, next_deadline, how_ended}
 use Rattle.history.specs.declared.Cause.{Cause}
 use Rattle.history.specs.Requests.{Requested}
 
@@ -61,11 +61,6 @@ fault_in Idle = no_fault
 fault_in (Read h i) = no_fault
 fault_in (Failed h i a f) = f
 
-abbrev pub fault_told : Result Ticked Refusal → Fault
-fault_told (Ok r) = fault_in r
-fault_told (Err e) = no_fault
-
--- the same of an answer that tells too which lanes ended
 abbrev pub tick_fault : Result Tick Refusal → Fault
 tick_fault (Ok t) = fault_in t.did
 tick_fault (Err e) = no_fault
@@ -112,9 +107,9 @@ pub record Attempted (m : List Block) (l : Lane) (h : ℕ) (mem : List ℕ) (r :
 abbrev pub Alive : List (Option Lane) → List Bool → Type 0
 Alive ls bs = (h : ℕ) → h < 8 → slice_index_or bs h false ≡ is_live (lane_at ls h).stage
 
--- r tells how the lanes that were live have ended, now that lanes are ls', whatever they were before
+-- r tells how the lanes that were live have ended, now that lanes are ls
 abbrev pub EndedSince : List Bool → List (Option Lane) → List (Option Cause) → Type 0
-EndedSince was ls' r = (ls : List (Option Lane)) → Alive ls was → r ≡ ends ls ls'
+EndedSince was ls r = (h : ℕ) → h < 8 → slice_index_or r h None ≡ how_ended (slice_index_or was h false) (slice_index_or ls h None)
 
 -- THE BURNS THAT END
 

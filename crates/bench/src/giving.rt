@@ -1,7 +1,8 @@
 // Showing a lease and giving it back, by party and number.
-ghost use Rattle.std.specs.Prelude.{◌≡◌, ℕ, ◌<◌, true, false, List, length};
+ghost use Rattle.std.specs.Prelude.{◌≡◌, ℕ, ◌<◌, true, false, List, length, nat_eq, MatchResult};
+ghost use Rattle.history.specs.Bench.{bytes_in};
 ghost use Rattle.history.specs.Calls.{answered, done, shown, give, show};
-ghost use Rattle.bench.specs.Model.{world, out_to};
+ghost use Rattle.bench.specs.Model.{world, OutOrNotHeld};
 
 use crate::state::Bench;
 use disk::Disk;
@@ -17,9 +18,7 @@ impl<D: Disk> Bench<D> {
         if party > 3 || lease > 15 {
             return Err(Refusal::Bounds);
         }
-        if !is_out(&self.leases, party, lease, false) {
-            return Err(Refusal::NotHeld);
-        }
+        let _ = self.out(party, lease, false)?;
         self.leases[lease as usize] = None;
         Ok(())
     }
@@ -31,32 +30,38 @@ impl<D: Disk> Bench<D> {
         if party > 3 || lease > 15 {
             return Err(Refusal::Bounds);
         }
-        if pool.len() != 2048 {
-            return Err(Refusal::WrongSize);
-        }
-        if !is_out(&self.leases, party, lease, false) {
-            return Err(Refusal::NotHeld);
-        }
-        let slot = self.leases[lease as usize];
-        let Some(held) = slot else {
+        let pool = whole(pool)?;
+        let held = self.out(party, lease, false)?;
+        Ok(part(pool, held.buffer))
+    }
+
+    // The lease of that number, if it is out to that party, by slip or by number.
+    pub(crate) fn out(&self, party: u32, lease: u32, slip: bool) -> Result<Lease, Refusal>
+        ensures { OutOrNotHeld self.entry.now.leases party lease slip result }
+    {
+        let Some(Some(held)) = self.leases.get(lease as usize) else {
             return Err(Refusal::NotHeld);
         };
-        let at = 64 * held.buffer as usize;
-        Ok(&pool[at..at + 64])
+        if held.party == party && held.slip == slip {
+            Ok(*held)
+        } else {
+            Err(Refusal::NotHeld)
+        }
     }
 }
 
-// Whether a lease is out to a party, by slip or by number.
-pub(crate) fn is_out(leases: &[Option<Lease>], party: u32, lease: u32, slip: bool) -> bool
-    ensures value { result ≡ out_to leases.now party lease slip }
-    ensures within { result ≡ true → lease < length leases.now }
+// The pool, which has 32 buffers of 64 bytes.
+pub(crate) fn whole(pool: &[u8]) -> Result<&[u8; 2048], Refusal>
+    ensures { MatchResult result (λ p. (nat_eq (length pool.now) 2048 ≡ true) × (p.now ≡ pool.now)) (λ e. (nat_eq (length pool.now) 2048 ≡ false) × (e ≡ Refusal.WrongSize)) }
 {
-    if lease as usize >= leases.len() {
-        return false;
-    }
-    let slot = leases[lease as usize];
-    match slot {
-        Some(held) => held.party == party && held.slip == slip,
-        None => false,
-    }
+    pool.try_into().map_err(|_| Refusal::WrongSize)
+}
+
+// The bytes of a buffer.
+pub(crate) fn part(pool: &[u8; 2048], buffer: u8) -> &[u8]
+    requires { buffer < 32 }
+    ensures { result.now ≡ bytes_in pool.now buffer }
+{
+    let at = 64 * buffer as usize;
+    &pool[at..at + 64]
 }

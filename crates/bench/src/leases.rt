@@ -1,14 +1,13 @@
 // Taking, showing and giving back: the calls of those who use a block.
-ghost use Rattle.std.specs.Prelude.{◌≡◌, ℕ, ◌≤◌, true, false, List, IfOk, nat_le};
-ghost use Rattle.bench.specs.Sound.{live_ok};
-ghost use Rattle.history.specs.Calls.{answered, reported, leased, lease_told, honours, report, close, take_block, report_of, there, vacant, new_lease};
+ghost use Rattle.std.specs.Prelude.{◌≡◌, ℕ, ◌<◌, true, false, List, length, IfOk, MatchResult, slice_index_or};
+ghost use Rattle.history.specs.Calls.{answered, reported, leased, lease_told, honours, report, close, take_block, report_of, there, vacant};
 ghost use Rattle.bench.specs.Model.{world};
 
 use crate::lane::step;
-use crate::quiet::{any_live, lease_lapse};
+use crate::quiet::any_live;
 use crate::state::Bench;
 use disk::Disk;
-use history::{Cause, Event, Lane, Lease, Report, Stage};
+use history::{Event, Lane, Lease, Report, Stage};
 use refusal::Refusal;
 
 impl<D: Disk> Bench<D> {
@@ -19,10 +18,7 @@ impl<D: Disk> Bench<D> {
         if head > 7 {
             return Err(Refusal::Bounds);
         }
-        let slot = self.lanes[head as usize];
-        let Some(lane) = slot else {
-            return Err(Refusal::HeadEmpty);
-        };
+        let lane = self.lane(head)?;
         Ok(report_of(&lane))
     }
 }
@@ -36,11 +32,7 @@ impl<D: Disk> Bench<D> {
         if head > 7 {
             return Err(Refusal::Bounds);
         }
-        let slot = self.lanes[head as usize];
-        let Some(found) = slot else {
-            return Err(Refusal::HeadEmpty);
-        };
-        let mut lane = found;
+        let mut lane = self.lane(head)?;
         step(&mut lane, Event::Close);
         self.lanes[head as usize] = None;
         self.live = any_live(&self.lanes);
@@ -49,6 +41,14 @@ impl<D: Disk> Bench<D> {
 }
 
 impl<D: Disk> Bench<D> {
+    // The lane of a head.
+    fn lane(&self, head: u32) -> Result<Lane, Refusal>
+        requires { head < 8 }
+        ensures { MatchResult result (λ l. slice_index_or self.entry.now.lanes head None ≡ Some l) (λ e. (slice_index_or self.entry.now.lanes head None ≡ None) × (e ≡ Refusal.HeadEmpty)) }
+    {
+        self.lanes[head as usize].ok_or(Refusal::HeadEmpty)
+    }
+
     // Lends a block of a head's lane to a party: the lowest lease number that is free.
     pub fn take(&mut self, head: u32, block: u32, party: u32) -> Result<u8, Refusal>
         ensures answer { (pool : List ℕ) → answered leased result ≡ (take_block (world D.Disk.meaning pool self.entry.now) head block party false).1 }
@@ -72,22 +72,22 @@ impl<D: Disk> Bench<D> {
         if head > 7 || block > 4095 || party > 3 {
             return Err(Refusal::Bounds);
         }
-        let slot = self.lanes[head as usize];
-        let Some(lane) = slot else {
-            return Err(Refusal::HeadEmpty);
-        };
+        let lane = self.lane(head)?;
         if !is_there(self.now, &lane, block) {
             return Err(Refusal::NotThere);
         }
-        let number = first_vacant(&self.leases);
-        if is_past_last(number) {
-            return Err(Refusal::LeasesOut);
-        }
-        let lease = Some(new_lease(&lane, head, block, party, slip));
-        let own = lease_lapse(self.now, &self.lanes, &lease);
-        self.lapse = self.lapse.min(own);
+        let number = first_vacant(&self.leases)?;
+        self.lapse = 0;
         self.quiet = 0;
-        self.leases[number] = lease;
+        self.leases[number] = Some(Lease {
+            party,
+            head,
+            admitted: lane.admitted,
+            index: block,
+            block: lane.order.first + block,
+            buffer: lane.buffers[(block % lane.order.timing.depth) as usize],
+            slip,
+        });
         Ok(number as u8)
     }
 }
@@ -102,54 +102,20 @@ fn is_there(slot: u32, lane: &Lane, block: u32) -> bool
     false
 }
 
-// The lowest lease number that is free, or 16.
-fn first_vacant(leases: &[Option<Lease>]) -> usize
-    ensures value { result ≡ vacant leases.now }
+// The lowest lease number that is free.
+fn first_vacant(leases: &[Option<Lease>]) -> Result<usize, Refusal>
+    ensures { MatchResult result (λ m. (m ≡ vacant leases.now) × (m < length leases.now)) (λ e. (vacant leases.now ≡ length leases.now) × (e ≡ Refusal.LeasesOut)) }
 {
-    for (m, lease) in leases.iter().enumerate() {
-        if lease.is_none() {
-            return m;
-        }
-    }
-    leases.len()
-}
-
-// True if and only if there is no lease of that number: they are 0 to 15.
-fn is_past_last(number: usize) -> bool
-    ensures { result ≡ nat_le 16 number }
-{
-    number >= 16
-}
-
-fn new_lease(lane: &Lane, head: u32, block: u32, party: u32, slip: bool) -> Lease
-    requires { (live_ok lane.now ≡ true) × (block ≤ 4095) }
-    ensures { result ≡ new_lease lane.now head block party slip }
-{
-    Lease {
-        party,
-        head,
-        admitted: lane.admitted,
-        index: block,
-        block: lane.order.first + block,
-        buffer: lane.buffers[(block % lane.order.timing.depth) as usize],
-        slip,
-    }
+    let vacant = leases.iter().position(|lease| lease.is_none());
+    vacant.ok_or(Refusal::LeasesOut)
 }
 
 fn report_of(lane: &Lane) -> Report
     ensures { result ≡ report_of lane.now }
 {
-    let (cause, fault) = match lane.stage {
-        Stage::Live => (Cause::Live, None),
-        Stage::Finished => (Cause::Finished, None),
-        Stage::Faulted(fault) => (Cause::Faulted, Some(fault)),
-        Stage::Held => (Cause::Held, None),
-        Stage::Closed => (Cause::Closed, None),
-    };
     Report {
-        cause,
+        stage: lane.stage,
         next: lane.next,
         failed: lane.failed,
-        fault,
     }
 }

@@ -16,5 +16,5 @@ mod ticking;
 
 pub use order::Order;
 pub use performing::perform;
-pub use slip::Slip;
+pub use slip::{Slip, SlipNumbers};
 pub use state::Bench;

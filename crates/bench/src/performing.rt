@@ -1,12 +1,12 @@
 // A list of calls on a new bench, performed one after the other. What holds after every such list is proved here.
-ghost use Rattle.std.specs.Prelude.{◌≡◌, ℕ, List, IfOk};
-ghost use Rattle.history.specs.Calls.{answered, done, new, give_slip};
+ghost use Rattle.std.specs.Prelude.{◌≡◌, IfOk};
+ghost use Rattle.history.specs.Calls.{new};
 ghost use Rattle.history.specs.Laws.{BenchLaws, Start};
 ghost use Rattle.bench.specs.Model.{world};
-ghost use Rattle.bench.specs.Performing.{Obeys, Performs, of_numbers, or_refused, lent};
+ghost use Rattle.bench.specs.Performing.{Obeys, Performs, lent};
 
 use crate::order::Order;
-use crate::slip::Slip;
+use crate::slip::SlipNumbers;
 use crate::state::Bench;
 use disk::Disk;
 use history::{Report, Tick};
@@ -35,18 +35,9 @@ pub enum Call {
     },
 }
 
-// The numbers of a slip.
-#[derive(Clone, Copy)]
-pub struct SlipNumbers {
-    pub lease: u32,
-    pub bench: u16,
-    pub party: u32,
-}
-
-// What a call answered.
+// What a call that was not refused answered.
 #[derive(Clone, Copy)]
 pub enum Answer {
-    Refused(Refusal),
     // An order is admitted, or a lease is back.
     Done,
     Ticked(Tick),
@@ -59,7 +50,7 @@ pub enum Answer {
 #[derive(Drop)]
 pub struct Performed<D> {
     pub bench: Bench<D>,
-    pub answers: Vec<Answer>,
+    pub answers: Vec<Result<Answer, Refusal>>,
 }
 
 // Performs a list of calls on a new bench of that number, over that disk and pool; the laws of a bench hold after it.
@@ -84,86 +75,49 @@ pub fn perform<D: Disk + Drop>(
 
 impl<D: Disk> Bench<D> {
     // One call of a list.
-    fn obey(&mut self, pool: &mut [u8], call: &Call) -> Answer
+    fn obey(&mut self, pool: &mut [u8], call: &Call) -> Result<Answer, Refusal>
         ensures { Obeys (world D.Disk.meaning pool.old self.entry.now) call.now result (world D.Disk.meaning pool.new self.exit.now) }
     {
         match *call {
-            Call::Admit(order) => done_or(self.admit(order)),
-            Call::Tick => ticked_or(self.tick_with_ends(pool)),
+            Call::Admit(order) => {
+                self.admit(order)?;
+                Ok(Answer::Done)
+            }
+            Call::Tick => Ok(Answer::Ticked(self.tick(pool)?)),
             Call::Take {
                 head,
                 block,
                 party,
                 slip,
             } => {
-                let number = self.number;
-                let lease = self.lend(head, block, party, slip);
-                lent_or(lease, number, party, slip)
+                let bench = self.number;
+                let lease = self.lend(head, block, party, slip)?;
+                Ok(lent(bench, party, slip, lease))
             }
-            Call::Give { party, lease } => done_or(self.give(party, lease)),
-            Call::GiveSlip(numbers) => done_or(self.give_named(&numbers)),
-            Call::Close { head } => reported_or(self.close(head)),
+            Call::Give { party, lease } => {
+                self.give(party, lease)?;
+                Ok(Answer::Done)
+            }
+            Call::GiveSlip(numbers) => {
+                self.give_named(&numbers)?;
+                Ok(Answer::Done)
+            }
+            Call::Close { head } => Ok(Answer::Reported(self.close(head)?)),
         }
     }
-
-    // Takes back the lease of the slip of those numbers.
-    fn give_named(&mut self, numbers: &SlipNumbers) -> Result<(), Refusal>
-        ensures answer { (pool : List ℕ) → answered (λ _. done) result ≡ (give_slip (world D.Disk.meaning pool self.entry.now) (of_numbers numbers.now)).1 }
-        ensures bench { (pool : List ℕ) → world D.Disk.meaning pool self.exit.now ≡ (give_slip (world D.Disk.meaning pool self.entry.now) (of_numbers numbers.now)).0 }
-    {
-        let mut slip = Slip {
-            lease: numbers.lease,
-            bench: numbers.bench,
-            party: numbers.party,
-            spent: false,
-        };
-        let answer = self.give_slip(&mut slip);
-        slip.spent = true;
-        answer
-    }
 }
 
-fn done_or(answer: Result<(), Refusal>) -> Answer
-    ensures { result ≡ or_refused (λ _. Answer.Done) answer }
+// A lease as a take answers it, by slip or by number.
+fn lent(bench: u16, party: u32, slip: bool, lease: u8) -> Answer
+    ensures { result ≡ lent bench party slip lease }
 {
-    match answer {
-        Ok(()) => Answer::Done,
-        Err(refusal) => Answer::Refused(refusal),
-    }
-}
-
-fn ticked_or(answer: Result<Tick, Refusal>) -> Answer
-    ensures { result ≡ or_refused (λ t. Answer.Ticked t) answer }
-{
-    match answer {
-        Ok(tick) => Answer::Ticked(tick),
-        Err(refusal) => Answer::Refused(refusal),
-    }
-}
-
-fn lent_or(answer: Result<u8, Refusal>, bench: u16, party: u32, slip: bool) -> Answer
-    ensures { result ≡ or_refused (lent bench party slip) answer }
-{
-    match answer {
-        Ok(lease) => {
-            if !slip {
-                return Answer::Leased(lease);
-            }
-            Answer::Slipped(SlipNumbers {
-                lease: lease as u32,
-                bench,
-                party,
-            })
-        }
-        Err(refusal) => Answer::Refused(refusal),
-    }
-}
-
-fn reported_or(answer: Result<Report, Refusal>) -> Answer
-    ensures { result ≡ or_refused (λ x. Answer.Reported x) answer }
-{
-    match answer {
-        Ok(report) => Answer::Reported(report),
-        Err(refusal) => Answer::Refused(refusal),
+    if slip {
+        Answer::Slipped(SlipNumbers {
+            lease: lease as u32,
+            bench,
+            party,
+        })
+    } else {
+        Answer::Leased(lease)
     }
 }

@@ -3,10 +3,16 @@ ghost use Rattle.std.specs.Prelude.{◌≡◌, true};
 
 // The lease, the bench and the party of a take. Take alone makes one, and give spends it.
 pub struct Slip {
-    pub(crate) lease: u32,
-    pub(crate) bench: u16,
-    pub(crate) party: u32,
+    pub(crate) numbers: SlipNumbers,
     pub(crate) spent: bool,
+}
+
+// The numbers of a slip.
+#[derive(Clone, Copy)]
+pub struct SlipNumbers {
+    pub lease: u32,
+    pub bench: u16,
+    pub party: u32,
 }
 
 impl Drop for Slip {
@@ -15,9 +21,7 @@ impl Drop for Slip {
         requires { self.spent ≡ true }
     {
         let Slip {
-            lease: _,
-            bench: _,
-            party: _,
+            numbers: _,
             spent: _,
         } = self;
     }

@@ -1,13 +1,14 @@
 // Taking, showing and giving back by slip.
-ghost use Rattle.std.specs.Prelude.{◌≡◌, ℕ, ◌<◌, true, false, ◌&&◌, ◌||◌, List, is_ok, IfOk, ◌==◌};
+ghost use Rattle.std.specs.Prelude.{◌≡◌, ℕ, true, false, ◌||◌, List, is_ok, IfOk};
 ghost use Rattle.refusal.specs.Told.{answer_number};
 ghost use Rattle.history.specs.Calls.{answered, done, shown, slipped, take_block, give_slip, show_slip};
-ghost use Rattle.bench.specs.Model.{world, named, honoured, out_to};
+ghost use Rattle.bench.specs.Model.{world, named, of_numbers, honoured, HonouredOrNotHeld};
 
-use crate::giving::is_out;
-use crate::slip::Slip;
+use crate::giving::{part, whole};
+use crate::slip::{Slip, SlipNumbers};
 use crate::state::Bench;
 use disk::Disk;
+use history::Lease;
 use refusal::Refusal;
 
 impl<D: Disk> Bench<D> {
@@ -19,15 +20,15 @@ impl<D: Disk> Bench<D> {
         ensures honoured { IfOk result (λ s. honoured self.exit.now s ≡ true) }
     {
         let bench = self.number;
-        match self.lend(head, block, party, true) {
-            Ok(lease) => Ok(Slip {
+        let lease = self.lend(head, block, party, true)?;
+        Ok(Slip {
+            numbers: SlipNumbers {
                 lease: lease as u32,
                 bench,
                 party,
-                spent: false,
-            }),
-            Err(refusal) => Err(refusal),
-        }
+            },
+            spent: false,
+        })
     }
 
     // Takes a slip's lease back, and spends the slip; a slip of another bench, or one that is spent, is Not held, and
@@ -42,11 +43,19 @@ impl<D: Disk> Bench<D> {
         if slip.spent {
             return Err(Refusal::NotHeld);
         }
-        if !self.honours(slip) {
-            return Err(Refusal::NotHeld);
-        }
-        self.leases[slip.lease as usize] = None;
+        let numbers = slip.numbers;
+        self.give_named(&numbers)?;
         slip.spent = true;
+        Ok(())
+    }
+
+    // Takes back the lease of the slip of those numbers.
+    pub(crate) fn give_named(&mut self, numbers: &SlipNumbers) -> Result<(), Refusal>
+        ensures answer { (pool : List ℕ) → answered (λ _. done) result ≡ (give_slip (world D.Disk.meaning pool self.entry.now) (of_numbers numbers.now)).1 }
+        ensures bench { (pool : List ℕ) → world D.Disk.meaning pool self.exit.now ≡ (give_slip (world D.Disk.meaning pool self.entry.now) (of_numbers numbers.now)).0 }
+    {
+        let _ = self.honoured(numbers)?;
+        self.leases[numbers.lease as usize] = None;
         Ok(())
     }
 
@@ -55,28 +64,18 @@ impl<D: Disk> Bench<D> {
         requires { slip.now.spent ≡ false }
         ensures { answered (λ part. shown part.now) result ≡ (show_slip (world D.Disk.meaning pool.now self.entry.now) (named slip.now)).1 }
     {
-        if pool.len() != 2048 {
-            return Err(Refusal::WrongSize);
-        }
-        if !self.honours(slip) {
-            return Err(Refusal::NotHeld);
-        }
-        let slot = self.leases[slip.lease as usize];
-        let Some(held) = slot else {
-            return Err(Refusal::NotHeld);
-        };
-        let at = 64 * held.buffer as usize;
-        Ok(&pool[at..at + 64])
+        let pool = whole(pool)?;
+        let held = self.honoured(&slip.numbers)?;
+        Ok(part(pool, held.buffer))
     }
 
-    // Whether a slip is this bench's, and its lease is out by slip to its party.
-    fn honours(&self, slip: &Slip) -> bool
-        ensures value { result ≡ (slip.now.bench == self.entry.now.number && out_to self.entry.now.leases slip.now.party slip.now.lease true) }
-        ensures within { result ≡ true → slip.now.lease < 16 }
+    // The lease of the slip of those numbers, if the slip is this bench's and its lease is out by slip to its party.
+    fn honoured(&self, numbers: &SlipNumbers) -> Result<Lease, Refusal>
+        ensures { HonouredOrNotHeld self.entry.now numbers.now result }
     {
-        if slip.bench != self.number {
-            return false;
+        if numbers.bench != self.number {
+            return Err(Refusal::NotHeld);
         }
-        is_out(&self.leases, slip.party, slip.lease, true)
+        self.out(numbers.party, numbers.lease, true)
     }
 }

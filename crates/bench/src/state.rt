@@ -16,9 +16,9 @@ pub struct Bench<D> {
     pub(crate) lanes: [Option<Lane>; 8],
     pub(crate) leases: [Option<Lease>; 16],
     // A slot that ends before this one makes no read and ends no lane.
-    pub(crate) quiet: u32,
+    pub(crate) quiet: u64,
     // No burn of a block that is lent ends before this slot.
-    pub(crate) lapse: u32,
+    pub(crate) lapse: u64,
     // Whether some lane is live.
     pub(crate) live: bool,
     // Read calls made, and those that failed: at most one a slot.

@@ -5,12 +5,12 @@ ghost use Rattle.history.specs.Bench.{any, some_and, is_live, lane_in, lane_at};
 ghost use Rattle.history.specs.Calls.{answered, ticked, tick, served, due, choice, next_block, holds_up, changed, aged, all_aged, ends, how_ended};
 ghost use Rattle.history.specs.Requests.{Requested};
 ghost use Rattle.bench.specs.Model.{world};
-ghost use Rattle.bench.specs.Quiet.{all_later, settled};
+ghost use Rattle.bench.specs.Quiet.{settled};
 ghost use Rattle.bench.specs.Sound.{every, lane_ok, live_ok};
-ghost use Rattle.bench.specs.Ticks.{deadline_of, head_of, RequestOf, Offered, chosen_by, may_end, Alive, EndedSince, fault_in, fault_told, tick_fault, failures_in, FaultAt, ToldBy, ToldFrom, TickToldFrom, Attempted};
+ghost use Rattle.bench.specs.Ticks.{deadline_of, head_of, RequestOf, Offered, chosen_by, may_end, Alive, EndedSince, fault_in, tick_fault, failures_in, FaultAt, ToldBy, TickToldFrom, Attempted};
 
 use crate::lane::step;
-use crate::quiet::{any_live, is_live, quiet_until, renewed};
+use crate::quiet::{any_live, is_live, lent_until, next_lapse, quiet_until};
 use crate::state::Bench;
 use disk::Disk;
 use history::{Cause, Event, Lane, Lease, Stage, Tick, Ticked};
@@ -18,22 +18,11 @@ use queue::Queue;
 use queue::request::ReadRequest;
 use refusal::Refusal;
 use schedule::Timing;
+use std::array;
 
 impl<D: Disk> Bench<D> {
-    // One slot: at most one read, and then the burns that end.
-    pub fn tick(&mut self, pool: &mut [u8]) -> Result<Ticked, Refusal>
-        ensures answer { answered ticked result ≡ (tick (world D.Disk.meaning pool.old self.entry.now) (fault_told result)).1 }
-        ensures bench { world D.Disk.meaning pool.new self.exit.now ≡ (tick (world D.Disk.meaning pool.old self.entry.now) (fault_told result)).0 }
-        ensures origin { ToldFrom (D.Disk.faults self.entry.now.disk) self.entry.now.lanes result }
-    {
-        match self.tick_with_ends(pool) {
-            Ok(tick) => Ok(tick.did),
-            Err(refusal) => Err(refusal),
-        }
-    }
-
-    // The same, and which lanes the slot ended.
-    pub fn tick_with_ends(&mut self, pool: &mut [u8]) -> Result<Tick, Refusal>
+    // One slot: at most one read, and then the burns that end; what the disk did, and which lanes the slot ended.
+    pub fn tick(&mut self, pool: &mut [u8]) -> Result<Tick, Refusal>
         ensures answer { answered (λ t. ticked t.did) result ≡ (tick (world D.Disk.meaning pool.old self.entry.now) (tick_fault result)).1 }
         ensures bench { world D.Disk.meaning pool.new self.exit.now ≡ (tick (world D.Disk.meaning pool.old self.entry.now) (tick_fault result)).0 }
         ensures ended { IfOk result (λ t. t.ended ≡ ends self.entry.now.lanes self.exit.now.lanes) }
@@ -45,7 +34,7 @@ impl<D: Disk> Bench<D> {
         if self.now == 1_000_000 {
             return Err(Refusal::LastSlot);
         }
-        if self.now + 1 < self.quiet {
+        if ((self.now + 1) as u64) < self.quiet {
             self.now += 1;
             return Ok(Tick {
                 did: Ticked::Idle,
@@ -101,8 +90,13 @@ impl<D: Disk> Bench<D> {
     fn settle(&mut self)
         ensures { (pool : List ℕ) → world D.Disk.meaning pool self.exit.now ≡ settled (world D.Disk.meaning pool self.entry.now) }
     {
-        age_past(self.now, self.lapse, &self.leases, &mut self.lanes);
-        self.lapse = renewed(self.now, self.lapse, &self.lanes, &self.leases);
+        if (self.now as u64) < self.lapse {
+            // No burn of a block that is lent ends.
+            age_all(self.now, &[], &mut self.lanes);
+        } else {
+            age_all(self.now, &self.leases, &mut self.lanes);
+            self.lapse = next_lapse(self.now, &self.lanes, &self.leases);
+        }
         self.quiet = quiet_until(self.lapse, &self.lanes);
         self.live = any_live(&self.lanes);
     }
@@ -123,18 +117,18 @@ fn attempt<D: Disk>(disk: &mut D, lane: &mut Lane, head: u32, pool: &mut [u8]) -
             step(lane, Event::BlockRead);
             Ticked::Read { head, block: index }
         }
-        Err(refusal) => match refusal {
-            Refusal::Faulted(fault) => {
-                step(lane, Event::FailedAttempt(fault));
-                Ticked::Failed {
-                    head,
-                    block: index,
-                    attempt,
-                    fault,
-                }
+        Err(refusal) => {
+            let Refusal::Faulted(fault) = refusal else {
+                unreachable()
+            };
+            step(lane, Event::FailedAttempt(fault));
+            Ticked::Failed {
+                head,
+                block: index,
+                attempt,
+                fault,
             }
-            _ => unreachable(),
-        },
+        }
     }
 }
 
@@ -142,22 +136,14 @@ fn attempt<D: Disk>(disk: &mut D, lane: &mut Lane, head: u32, pool: &mut [u8]) -
 fn live_heads(lanes: &[Option<Lane>; 8]) -> [bool; 8]
     ensures { Alive lanes.now result }
 {
-    let mut live = [false; 8];
-    for head in 0..8 {
-        live[head] = is_live(&lanes[head]);
-    }
-    live
+    array::from_fn(|head| is_live(&lanes[head]))
 }
 
 // By head: how a lane that was live has ended, if it has.
 fn ended_since(was: &[bool; 8], lanes: &[Option<Lane>; 8]) -> [Option<Cause>; 8]
     ensures { EndedSince was.now lanes.now result }
 {
-    let mut ended = [None; 8];
-    for head in 0..8 {
-        ended[head] = how_ended(was[head], &lanes[head]);
-    }
-    ended
+    array::from_fn(|head| how_ended(was[head], &lanes[head]))
 }
 
 fn how_ended(was: bool, lane: &Option<Lane>) -> Option<Cause>
@@ -259,20 +245,6 @@ fn request(slot: u32, head: u8, lane: &Option<Lane>) -> Option<ReadRequest>
     })
 }
 
-// Every live lane as it is from `slot` on; no burn of a block that is lent ends before `lapse`, so that until then the
-// leases need no look.
-fn age_past(slot: u32, lapse: u32, leases: &[Option<Lease>], lanes: &mut [Option<Lane>])
-    requires lanes { every lane_ok lanes.old ≡ true }
-    requires unheld { all_later slot lapse lanes.old leases.now ≡ true }
-    ensures { lanes.new ≡ all_aged slot leases.now lanes.old }
-{
-    if slot < lapse {
-        age_all(slot, &[], lanes);
-    } else {
-        age_all(slot, leases, lanes);
-    }
-}
-
 // Every live lane whose burn ends at `slot`, as it is then.
 fn age_all(slot: u32, leases: &[Option<Lease>], lanes: &mut [Option<Lane>])
     requires { every lane_ok lanes.old ≡ true }
@@ -315,30 +287,15 @@ fn may_end(slot: u32, timing: &Timing) -> bool
 
 // Whether a lease taken in this lane is out on a block whose burn ends at `slot`.
 fn is_held(slot: u32, lane: &Lane, leases: &[Option<Lease>]) -> bool
-    requires { live_ok lane.now ≡ true }
     ensures { result ≡ any (holds_up slot lane.now) leases.now }
 {
-    for m in 0..leases.len() {
-        if is_holding(slot, lane, &leases[m]) {
-            return true;
-        }
-    }
-    false
+    leases.iter().any(|lease| is_holding(slot, lane, lease))
 }
 
 fn is_holding(slot: u32, lane: &Lane, lease: &Option<Lease>) -> bool
-    requires { live_ok lane.now ≡ true }
     ensures { result ≡ some_and (holds_up slot lane.now) lease.now }
 {
-    let Some(lease) = lease else {
-        return false;
-    };
-    if lease.head != lane.order.head {
-        return false;
-    }
-    if lease.admitted != lane.admitted {
-        return false;
-    }
-    let blocks = lease.index as u64 + 1;
-    lane.order.timing.start as u64 + blocks * lane.order.timing.period as u64 == slot as u64
+    lease
+        .as_ref()
+        .is_some_and(|lease| lent_until(lane, lease) == Some(slot as u64))
 }

@@ -6,9 +6,10 @@ use bench::performing::{Answer, Call, perform};
 use bench::{Bench, Order};
 use disk::Disk;
 use disk::strip::Strip;
-use history::Ticked;
+use history::{Asked, Tick, Ticked};
 use layers::plan::{Entries, Plan};
 use refusal::Refusal;
+use schedule::Timing;
 use std::io;
 
 // The party that burns, and the preview.
@@ -44,17 +45,37 @@ fn run(rt: &HostRuntime) -> anyhow::Result<()> {
 // order for head 2 comes, whose blocks are read in the slots then.
 fn story() -> Result<[Call; 18], Refusal> {
     let mut calls = [Call::Tick; 18];
-    calls[0] = Call::Admit(Order::new(0, 0, 2, 4, 8, 2, 0)?);
+    calls[0] = admit(0, 0, timing(2, 4, 8, 0))?;
     calls[6] = take(HEAD);
     calls[7] = take(PREVIEW);
-    calls[8] = Call::Admit(Order::new(1, 8, 1, 9, 4, 2, 1)?);
+    calls[8] = admit(1, 8, timing(1, 9, 4, 1))?;
     calls[10] = Call::Give {
         party: PREVIEW,
         lease: 1,
     };
     calls[11] = Call::Close { head: 0 };
-    calls[12] = Call::Admit(Order::new(2, 4, 2, 10, 4, 2, 0)?);
+    calls[12] = admit(2, 4, timing(2, 10, 4, 0))?;
     Ok(calls)
+}
+
+// `count` blocks from slot `start` on, `period` slots each, through two buffers.
+fn timing(count: u32, start: u32, period: u32, spare: u32) -> Timing {
+    Timing {
+        count,
+        start,
+        period,
+        depth: 2,
+        spare,
+    }
+}
+
+// An order for a head, from the block `first` of the disk on.
+fn admit(head: u32, first: u32, timing: Timing) -> Result<Call, Refusal> {
+    Ok(Call::Admit(Order::new(Asked {
+        head,
+        first,
+        timing,
+    })?))
 }
 
 // Block 0 of head 0, for a party.
@@ -85,16 +106,16 @@ fn play(rt: &HostRuntime, bytes: &[u8], pool: &mut [u8], calls: &[Call]) -> anyh
     Ok(())
 }
 
-fn tell(rt: &HostRuntime, answer: &Answer) -> io::Result<()> {
+fn tell(rt: &HostRuntime, answer: &Result<Answer, Refusal>) -> io::Result<()> {
     match answer {
-        Answer::Refused(refusal) => println!(rt; "  refused {}", refusal.number()),
-        Answer::Ticked(tick) => match tick.did {
+        Err(refusal) => println!(rt; "  refused {}", refusal.number()),
+        Ok(Answer::Ticked(Tick { did, .. })) => match did {
             Ticked::Idle => println!(rt; "  idle"),
             Ticked::Read { head, block } => println!(rt; "  read {head} {block}"),
             Ticked::Failed { head, block, .. } => println!(rt; "  failed {head} {block}"),
         },
-        Answer::Leased(lease) => println!(rt; "  lease {lease}"),
-        _ => println!(rt; "  granted"),
+        Ok(Answer::Leased(lease)) => println!(rt; "  lease {lease}"),
+        Ok(_) => println!(rt; "  granted"),
     }
 }
 
@@ -103,7 +124,11 @@ fn slips(rt: &HostRuntime, bytes: &[u8], pool: &mut [u8]) -> anyhow::Result<()> 
     let (Ok(strip), Ok(other), Ok(order)) = (
         Strip::new(bytes),
         Strip::new(bytes),
-        Order::new(0, 5, 1, 1, 4, 2, 0),
+        Order::new(Asked {
+            head: 0,
+            first: 5,
+            timing: timing(1, 1, 4, 0),
+        }),
     ) else {
         return Err(anyhow!("no bench"));
     };
@@ -122,8 +147,7 @@ fn slips(rt: &HostRuntime, bytes: &[u8], pool: &mut [u8]) -> anyhow::Result<()> 
 // A preview by slip, which is shown and given back: 0, or the refusal's number.
 fn preview<D: Disk>(bench: &mut Bench<D>, pool: &[u8]) -> u8 {
     match bench.take_slip(0, 0, PREVIEW) {
-        Ok(slip) => {
-            let mut slip = slip;
+        Ok(mut slip) => {
             let shown = number(bench.show_slip(&slip, pool));
             let _given = bench.give_slip(&mut slip);
             shown
@@ -142,8 +166,7 @@ fn number(shown: Result<&[u8], Refusal>) -> u8 {
 // A slip that another bench refuses is still to be given back: the refusal's number.
 fn foreign<D: Disk, E: Disk>(bench: &mut Bench<D>, other: &mut Bench<E>) -> u8 {
     match bench.take_slip(0, 0, PREVIEW) {
-        Ok(slip) => {
-            let mut slip = slip;
+        Ok(mut slip) => {
             match other.give_slip(&mut slip) {
                 Ok(()) => 0,
                 Err(refusal) => {

@@ -353,16 +353,8 @@ cause_number CauseFaulted = 2
 cause_number CauseHeld = 3
 cause_number CauseClosed = 4
 
--- the fault that ended it
-abbrev pub fault_of : Stage → Option Fault
-fault_of Live = None
-fault_of Finished = None
-fault_of (Faulted f) = Some f
-fault_of Held = None
-fault_of Closed = None
-
 abbrev pub report_of : Lane → Report
-report_of l = record { cause = cause_of l.stage; next = l.next; failed = l.failed; fault = fault_of l.stage }
+report_of l = record { stage = l.stage; next = l.next; failed = l.failed }
 
 abbrev pub close_checks : World → ℕ → List (Bool × Answer)
 close_checks w h = (nat_lt 7 h, refuse Bounds) ∷ (not (is_some (slice_index_or w.lanes h None)), refuse HeadEmpty) ∷ []

@@ -78,7 +78,7 @@ job_answers =
     ∷ leased 0 ∷ ticked Idle
     ∷ done ∷ ticked Idle
     ∷ leased 0 ∷ ticked Idle ∷ ticked Idle
-    ∷ reported (record { cause = CauseHeld; next = 2; failed = 0; fault = None }) ∷ []
+    ∷ reported (record { stage = Held; next = 2; failed = 0 }) ∷ []
 
 pub record JobDone (v : Valid job) : Type 0 where
   pub answers : answers bed (job_calls v) ≡ job_answers

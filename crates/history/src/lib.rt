@@ -104,15 +104,14 @@ pub struct Tick {
 // What is told of a lane.
 #[derive(Clone, Copy)]
 pub struct Report {
-    pub cause: Cause,
+    pub stage: Stage,
     // The lowest unread block, and the count if there is none.
     pub next: u32,
     // The failed attempts on it, 0 if there is none.
     pub failed: u32,
-    // The fault that ended the lane, as the disk told it, if its cause is Faulted.
-    pub fault: Option<Fault>,
 }
 
+// A stage without its fault.
 #[derive(Clone, Copy)]
 pub enum Cause {
     Live,

@@ -1,6 +1,7 @@
-use Rattle.std.proofs.Common.{◌≡◌, ℕ, ◌+◌, cond, List, [], ◌∷◌, ◌++◌, take, is_ok, vec_items, sym, ap, ◌∙◌, subst, arith}
+use Rattle.std.proofs.Common.{◌≡◌, ℕ, ◌+◌, cond, List, [], ◌∷◌, ◌++◌, take, is_ok, Result, vec_items, sym, ap, ◌∙◌, subst, arith}
 use Rattle.std.proofs.lemmas.List.{take_more, take_all}
 use Rattle.std.proofs.lemmas.Result.{err_from_is_err_and}
+use Rattle.refusal.specs.declared.Refusal.{Refusal}
 use Rattle.history.specs.Bench.{World}
 use Rattle.history.specs.Calls.{new}
 use Rattle.history.proofs.Laws.{bench_laws}
@@ -23,8 +24,8 @@ loop-call-preserved g c =
     let cs : List Call = c.args.calls.now in
     let k : ℕ = c.loop-call.call-index in
     let item : Call = c.call-item.result in
-    let old : List Answer = vec_items c.loop-call.answers in
-    let a : Answer = c.obey-answer.result in
+    let old : List (Result Answer Refusal) = vec_items c.loop-call.answers in
+    let a : Result Answer Refusal = c.obey-answer.result in
     let first : take (k + 1) cs ≡ take k cs ++ item ∷ [] = take_more cs k item (omega arith) ∙ ap (λ x. take k cs ++ x ∷ []) (sym c.call-item.is) in
     let items : vec_items c.push.new.self ≡ old ++ a ∷ [] = c.push.ensures.items ∙ ap (λ r. cond (is_ok r) (old ++ a ∷ []) old) c.in_ok-push.was in
     subst (λ xs. Performs w xs (vec_items c.push.new.self) w'') (sym first)
@@ -34,7 +35,7 @@ loop-call-preserved g c =
 pub returns : goal.returns
 returns g c =
     let w' : World = world g.D.Disk.meaning c.loop-call.pool c.loop-call.bench in
-    let as' : List Answer = vec_items c.loop-call.answers in
+    let as' : List (Result Answer Refusal) = vec_items c.loop-call.answers in
     record {
       performs =
           subst (λ cs. Performs (new c.args.number (g.D.Disk.meaning c.args.disk) c.args.pool.now) cs as' w') (take_all c.loop-call.call-index c.args.calls.now (omega arith))

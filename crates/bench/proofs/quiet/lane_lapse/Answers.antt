@@ -1,15 +1,11 @@
-use Rattle.std.proofs.Common.{◌≡◌, true, subst, arith}
-use Rattle.std.proofs.lemmas.List.{take_all}
-use Rattle.bench.specs.Quiet.{if_some, later}
-use Rattle.bench.specs.Sound.{every}
-use Rattle.bench.proofs.Rests.{lane_none, lane_more}
+use Rattle.std.proofs.Common.{◌≡◌, rules}
+use Rattle.bench.specs.Quiet.{later, lapse_of}
+use Rattle.bench.proofs.Rests.{lapse_later}
+use Rattle.bench.proofs.Sound.{every_from}
 use Rattle.bench.proofs.quiet.lane_lapse.Goals as goal
 
-pub loop-m-init : goal.loop-m-init
-loop-m-init c = lane_none c.args.lane.now
-
-pub loop-m-preserved : goal.loop-m-preserved
-loop-m-preserved c = lane_more c.args.slot c.loop-m.lapse c.lapse_of-own.result _ c.args.lane.now c.args.leases.now c.loop-m.m (omega arith) (omega arith) c.loop-m.invariant c.lapse_of-own.ensures
-
 pub returns : goal.returns
-returns c = subst (λ es. if_some (λ x. every (later c.args.slot c.loop-m.lapse x) es) c.args.lane.now ≡ true) (take_all c.loop-m.m c.args.leases.now (omega arith)) c.loop-m.invariant
+returns c = every_from (later c.args.slot c.least.result c.args.lane.now) c.args.leases.now (λ k e is.
+    let o = c.least.ensures k e is in
+    let own : o.0 ≡ lapse_of 18446744073709551615 c.args.slot c.args.lane.now e = search rules in
+    lapse_later 18446744073709551615 c.args.slot c.least.result o.0 c.args.lane.now e own o.2)

@@ -1,19 +1,15 @@
-use Rattle.std.proofs.Common.{◌≡◌, true, subst, arith}
-use Rattle.std.proofs.lemmas.List.{take_all}
-use Rattle.bench.specs.Quiet.{later, all_later}
-use Rattle.bench.specs.Sound.{every, lane_ok}
-use Rattle.bench.proofs.Rests.{every_if, every_weaker, every_more, later_lower}
+use Rattle.std.proofs.Common.{◌≡◌, true, rules}
+use Rattle.bench.specs.Quiet.{later}
+use Rattle.bench.specs.Sound.{every}
+use Rattle.bench.proofs.Rests.{every_weaker, later_lower}
+use Rattle.bench.proofs.Sound.{every_from}
 use Rattle.bench.proofs.quiet.next_lapse.Goals as goal
 
-pub lane_lapse-own-requires : goal.lane_lapse-own-requires
-lane_lapse-own-requires c = every_if lane_ok c.args.lanes.now c.loop-k.k c.requires
-
-pub loop-k-preserved : goal.loop-k-preserved
-loop-k-preserved c =
-    let es = c.args.leases.now in
-    let slot = c.args.slot in
-    every_more (λ t l. every (later slot t l) es) (λ t r l le h. every_weaker (later slot t l) (later slot r l) (λ e. later_lower slot t r l e le) es h)
-    c.args.lanes.now c.loop-k.k c.loop-k.lapse c.lane_lapse-own.result _ (omega arith) (omega arith) c.loop-k.invariant c.lane_lapse-own.ensures
-
 pub returns : goal.returns
-returns c = subst (λ ls. all_later c.args.slot c.loop-k.lapse ls c.args.leases.now ≡ true) (take_all c.loop-k.k c.args.lanes.now (omega arith)) c.loop-k.invariant
+returns c =
+    let slot = c.args.slot in
+    let t = c.least.result in
+    every_from (λ l. every (later slot t l) c.args.leases.now) c.args.lanes.now (λ k l is.
+    let o = c.least.ensures k l is in
+    let own : every (later slot o.0 l) c.args.leases.now ≡ true = search rules in
+    every_weaker (later slot o.0 l) (later slot t l) (λ e. later_lower slot o.0 t l e o.2) c.args.leases.now own)

@@ -11,6 +11,3 @@ returns-then-not-may_end c =
     let t = c.args.slot in
     let es = c.args.leases.now in
     sym (ap (λ o. changed (aged t es) o) c.in-Some.is ∙ ap (λ l. Some l) (not_aged t es c.in-Some.lane (sym c.if-not-may_end.ensures)))
-
-pub is_held-held-requires : goal.is_held-held-requires
-is_held-held-requires c = live_from_ok _ _ c.in-Some.is c.in-Live.is c.requires

@@ -7,8 +7,8 @@ use Rattle.bench.proofs.ticking.attempt.Goals as goal
 pub slice_bounds-read-end : goal.slice_bounds-read-end
 slice_bounds-read-end g c = let p = buffer_small c.args.lane.now c.args.lane.now.next c.requires.0 in search rules
 
-pub step-requires-in-Faulted : goal.step-requires-in-Faulted
-step-requires-in-Faulted g c = live_small c.args.lane.now c.requires.0
+pub step-requires-in-Err : goal.step-requires-in-Err
+step-requires-in-Err g c = live_small c.args.lane.now c.requires.0
 
 pub unreachable-requires : goal.unreachable-requires
 unreachable-requires g c =
@@ -29,4 +29,4 @@ returns-in-Faulted g c =
     let l = c.args.lane.now in
     let p = buffer_small l l.next c.requires.0 in
     let x = 64 * buffer_of l l.next in
-    record { outcome = read_refused _ l c.args.head c.args.pool.now (omega arith) (x + 64 - x) c.in-Faulted.fault _ _ _ _ (omega arith) c.step-in-Faulted.ensures (refusal_above c.in-Err.refusal) c.in-Err.ensures.outcome; origin = (refl, rw c.in-Faulted.is at c.in-Err.ensures.origin) }
+    record { outcome = read_refused _ l c.args.head c.args.pool.now (omega arith) (x + 64 - x) c.in-Faulted.fault _ _ _ _ (omega arith) c.step-in-Err.ensures (refusal_above c.in-Err.refusal) c.in-Err.ensures.outcome; origin = (refl, rw c.in-Faulted.is at c.in-Err.ensures.origin) }

@@ -1,22 +1,10 @@
-use Rattle.std.proofs.Common.{sym, ◌∙◌, arith}
-use Rattle.std.proofs.lemmas.List.{at_drop_all}
-use Rattle.std.proofs.lemmas.Bool.Decides.{nat_tests}
-use Rattle.history.specs.Bench.{any}
+use Rattle.std.proofs.Common.{◌∙◌, rules, tests}
+use Rattle.std.proofs.lemmas.Iterator.{YieldsList-from_slice}
+use Rattle.std.proofs.lemmas.Iterator.Search.{any_from_yields_List}
+use Rattle.history.specs.Bench.{some_and}
 use Rattle.history.specs.Calls.{holds_up}
-use Rattle.bench.proofs.Ticks.{any_more}
+use Rattle.bench.proofs.Sound.{any_is}
 use Rattle.bench.proofs.ticking.is_held.Goals as goal
 
-pub returns-then-is_holding : goal.returns-then-is_holding
-returns-then-is_holding c =
-    let s = any_more (holds_up c.args.slot c.args.lane.now) c.args.leases.now c.loop-m.m (omega arith) in
-    let n = c.if-is_holding.ensures in
-    grind (arith, nat_tests)
-
-pub loop-m-preserved : goal.loop-m-preserved
-loop-m-preserved c =
-    let s = any_more (holds_up c.args.slot c.args.lane.now) c.args.leases.now c.loop-m.m (omega arith) in
-    let n = c.if-is_holding.ensures in
-    grind (arith, nat_tests)
-
 pub returns : goal.returns
-returns c = sym (at_drop_all (any (holds_up c.args.slot c.args.lane.now)) c.args.leases.now c.loop-m.m (omega arith)) ∙ c.loop-m.invariant
+returns c = any_from_yields_List (some_and (holds_up c.args.slot c.args.lane.now)) _ _ _ c.any.ensures.ran (YieldsList-from_slice c.args.leases.now cc) (λ x b q k. search (rules, tests)) ∙ any_is _ c.args.leases.now

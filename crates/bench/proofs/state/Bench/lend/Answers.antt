@@ -1,14 +1,17 @@
-use Rattle.std.proofs.Common.{◌≡◌, ℕ, true, List, sym, refl, ap, ◌∙◌, subst, arith}
+use Rattle.std.proofs.Common.{◌≡◌, ℕ, ◌+◌, true, List, set, Some, sym, ap, ◌∙◌, subst, arith}
 use Rattle.std.proofs.lemmas.Bool.{lt-ltb}
 use Rattle.std.proofs.lemmas.Bool.Decides.{nat_tests}
-use Rattle.history.specs.Bench.{lane_at}
-use Rattle.history.specs.Calls.{with_leases, honours}
+use Rattle.history.specs.Bench.{lane_at, buffer_of}
+use Rattle.history.specs.declared.Lease.{Lease}
+use Rattle.refusal.specs.declared.Refusal.TheVariants.{LeasesOut, HeadEmpty}
+use Rattle.history.specs.Calls.{with_leases, honours, answered, lease_told, new_lease}
+use Rattle.bench.proofs.Gives.{passed_on}
 use Rattle.bench.specs.Model.{world}
 use Rattle.bench.specs.Quiet.{rests}
-use Rattle.bench.specs.Sound.{lane_ok, lease_ok}
-use Rattle.bench.proofs.Rests.{every_true, rests_zero, all_later_lend}
+use Rattle.bench.specs.Sound.{live_ok, lane_ok, lease_ok}
+use Rattle.bench.proofs.Rests.{every_true, rests_zero, all_later_zero}
 use Rattle.bench.proofs.Sound.{every_at, every_set_some, live_kept, there_live, buffer_below}
-use Rattle.bench.proofs.Lends.{take_off_limits, take_empty, take_gone, take_out, take_lent, lent_honoured}
+use Rattle.bench.proofs.Lends.{take_off_limits, take_empty, take_gone, take_out, take_lent, lent_honoured, lendable}
 use Rattle.bench.proofs.state.Bench.lend.Goals as goal
 
 pub returns-then-head-gt7 : goal.returns-then-head-gt7
@@ -16,41 +19,57 @@ returns-then-head-gt7 g c =
     let e = c.then-head-gt7.either in
     record { answer = λ pool. sym (ap (λ r. r.1) (take_off_limits (world g.D.Disk.meaning pool c.args.self.now) c.args.head c.args.block c.args.party c.args.slip (grind (arith, nat_tests)))); bench = λ pool. sym (ap (λ r. r.0) (take_off_limits (world g.D.Disk.meaning pool c.args.self.now) c.args.head c.args.block c.args.party c.args.slip (grind (arith, nat_tests)))); honoured = tt }
 
-pub returns-in_default : goal.returns-in_default
-returns-in_default g c =
-    record { answer = λ pool. sym (ap (λ r. r.1) (take_empty (world g.D.Disk.meaning pool c.args.self.now) c.args.head c.args.block c.args.party c.args.slip (grind (arith, nat_tests)) (grind (arith, nat_tests)))); bench = λ pool. sym (ap (λ r. r.0) (take_empty (world g.D.Disk.meaning pool c.args.self.now) c.args.head c.args.block c.args.party c.args.slip (grind (arith, nat_tests)) (grind (arith, nat_tests)))); honoured = tt }
+pub returns-in_err-lane : goal.returns-in_err-lane
+returns-in_err-lane g c =
+    let k = c.in_err-lane.ensures in
+    let same = passed_on c.from_residual.result _ HeadEmpty c.from_residual.ensures.1 k.1 in
+    let e = λ (pool : List ℕ). take_empty (world g.D.Disk.meaning pool c.args.self.now) c.args.head c.args.block c.args.party c.args.slip (grind (arith, nat_tests)) (grind (arith, nat_tests)) in
+    record { answer = λ pool. ap (answered (λ m. lease_told c.args.self.now.number m c.args.party c.args.slip)) same ∙ sym (ap (λ r. r.1) (e pool)); bench = λ pool. sym (ap (λ r. r.0) (e pool)); honoured = rw same tt }
 
 pub returns-then-not-is_there : goal.returns-then-not-is_there
 returns-then-not-is_there g c =
     let there = c.if-not-is_there.ensures in
-    record { answer = λ pool. sym (ap (λ r. r.1) (take_gone (world g.D.Disk.meaning pool c.args.self.now) c.args.head c.args.block c.args.party c.args.slip (grind (arith, nat_tests)) (grind (arith, nat_tests)) (grind (arith, nat_tests)))); bench = λ pool. sym (ap (λ r. r.0) (take_gone (world g.D.Disk.meaning pool c.args.self.now) c.args.head c.args.block c.args.party c.args.slip (grind (arith, nat_tests)) (grind (arith, nat_tests)) (grind (arith, nat_tests)))); honoured = tt }
+    let k = c.in_ok-lane.ensures in
+    let e = λ (pool : List ℕ). take_gone (world g.D.Disk.meaning pool c.args.self.now) c.args.head c.args.block c.args.party c.args.slip (grind (arith, nat_tests)) (grind (arith, nat_tests)) (grind (arith, nat_tests)) in
+    record { answer = λ pool. sym (ap (λ r. r.1) (e pool)); bench = λ pool. sym (ap (λ r. r.0) (e pool)); honoured = tt }
 
-pub returns-then-is_past_last : goal.returns-then-is_past_last
-returns-then-is_past_last g c =
+pub returns-in_err-number : goal.returns-in_err-number
+returns-in_err-number g c =
     let there = c.if-not-is_there.ensures in
-    let past = c.if-is_past_last.ensures in
-    let n = c.first_vacant-number.ensures.value in
-    record { answer = λ pool. sym (ap (λ r. r.1) (take_out (world g.D.Disk.meaning pool c.args.self.now) c.args.head c.args.block c.args.party c.args.slip (grind (arith, nat_tests)) (grind (arith, nat_tests)) (grind (arith, nat_tests)) (grind (arith, nat_tests)))); bench = λ pool. sym (ap (λ r. r.0) (take_out (world g.D.Disk.meaning pool c.args.self.now) c.args.head c.args.block c.args.party c.args.slip (grind (arith, nat_tests)) (grind (arith, nat_tests)) (grind (arith, nat_tests)) (grind (arith, nat_tests)))); honoured = tt }
+    let k = c.in_ok-lane.ensures in
+    let n = c.in_err-number.ensures in
+    let same = passed_on c.from_residual-in_err-number.result _ LeasesOut c.from_residual-in_err-number.ensures.1 n.1 in
+    let e = λ (pool : List ℕ). take_out (world g.D.Disk.meaning pool c.args.self.now) c.args.head c.args.block c.args.party c.args.slip (grind (arith, nat_tests)) (grind (arith, nat_tests)) (grind (arith, nat_tests)) (grind (arith, nat_tests)) in
+    record { answer = λ pool. ap (answered (λ m. lease_told c.args.self.now.number m c.args.party c.args.slip)) same ∙ sym (ap (λ r. r.1) (e pool)); bench = λ pool. sym (ap (λ r. r.0) (e pool)); honoured = rw same tt }
 
-pub new_lease-requires : goal.new_lease-requires
-new_lease-requires g c =
-    let k = every_at lane_ok c.args.self.now.lanes c.args.head c.in-Some.lane c.args.self.now.safe c.in-Some.is in
-    (live_kept c.in-Some.lane k (there_live c.args.self.now.now c.in-Some.lane c.args.block (sym c.if-not-is_there.ensures)), omega arith)
+live : (g : _) (c : goal.In_ok-number g) → live_ok c.in_ok-lane.lane ≡ true
+live g c =
+    let b = c.args.self.now in
+    live_kept c.in_ok-lane.lane (every_at lane_ok b.lanes c.args.head c.in_ok-lane.lane b.safe c.in_ok-lane.ensures) (there_live b.now c.in_ok-lane.lane c.args.block (sym c.if-not-is_there.ensures))
+
+pub overflow_add-self : goal.overflow_add-self
+overflow_add-self g c = let k = lendable c.in_ok-lane.lane (live g c) in omega (arith, k.0)
+
+pub nonzero_rem-self : goal.nonzero_rem-self
+nonzero_rem-self g c = let k = lendable c.in_ok-lane.lane (live g c) in omega (arith, k.1)
+
+pub bounds-lane-block : goal.bounds-lane-block
+bounds-lane-block g c = let k = lendable c.in_ok-lane.lane (live g c) in omega (arith, k.1, k.2)
 
 pub invariant_of-self : goal.invariant_of-self
 invariant_of-self g c =
     let b = c.args.self.now in
-    let k = every_at lane_ok b.lanes c.args.head c.in-Some.lane b.safe c.in-Some.is in
-    let v = live_kept c.in-Some.lane k (there_live b.now c.in-Some.lane c.args.block (sym c.if-not-is_there.ensures)) in
-    let lease : lease_ok c.new_lease.result ≡ true = rw c.new_lease.ensures (lt-ltb _ 32 (buffer_below c.in-Some.lane _ v)) in
+    let l = c.in_ok-lane.lane in
+    let e : Lease = record { party = c.args.party; head = c.args.head; admitted = l.admitted; index = c.args.block; block = l.order.first + c.args.block; buffer = buffer_of l c.args.block; slip = c.args.slip } in
+    let own = live_kept l (every_at lane_ok b.lanes c.args.head l b.safe c.in_ok-lane.ensures) (there_live b.now l c.args.block (sym c.if-not-is_there.ensures)) in
     record {
       time = b.time;
       calls = b.calls;
       failed = b.failed;
       safe = b.safe;
-      lent = every_set_some lease_ok b.leases c.first_vacant-number.result c.new_lease.result b.lent lease;
+      lent = every_set_some lease_ok b.leases c.in_ok-number.number e b.lent (lt-ltb _ 32 (buffer_below l _ own));
       resting = every_true (rests 0) rests_zero b.lanes;
-      unheld = all_later_lend b.now b.lapse c.lease_lapse-own.result _ b.lanes b.leases c.first_vacant-number.result c.new_lease.result (omega arith) (omega arith) b.unheld c.lease_lapse-own.ensures;
+      unheld = all_later_zero b.now b.lanes (set b.leases c.in_ok-number.number (Some e));
       sooner = omega arith;
       alive = b.alive;
     }
@@ -59,15 +78,17 @@ pub returns : goal.returns
 returns g c =
     let b = c.args.self.now in
     let there = c.if-not-is_there.ensures in
-    let n = c.first_vacant-number.ensures.value in
-    let l : c.in-Some.lane ≡ lane_at b.lanes c.args.head = grind arith in
+    let k = c.in_ok-lane.ensures in
+    let m = c.in_ok-number.number in
+    let n = c.in_ok-number.ensures.0 in
+    let l : c.in_ok-lane.lane ≡ lane_at b.lanes c.args.head = grind arith in
     let w = λ (pool : List ℕ). world g.D.Disk.meaning pool b in
     let e = λ (pool : List ℕ). take_lent (w pool) c.args.head c.args.block c.args.party c.args.slip (grind (arith, nat_tests)) (grind (arith, nat_tests)) (grind (arith, nat_tests)) (grind (arith, nat_tests)) in
-    let left = λ (pool : List ℕ). ap (with_leases (w pool)) (rw (n, c.new_lease.ensures, l) refl) ∙ sym (ap (λ r. r.0) (e pool)) in
+    let left = λ (pool : List ℕ). ap (with_leases (w pool)) (λ i. set b.leases (n i) (Some (new_lease (l i) c.args.head c.args.block c.args.party c.args.slip))) ∙ sym (ap (λ r. r.0) (e pool)) in
     record {
       answer = λ pool. rw n (sym (ap (λ r. r.1) (e pool)));
       bench = left;
       honoured = λ is pool.
-          subst (λ x. honours x (record { lease = c.first_vacant-number.result; bench = b.number; party = c.args.party }) ≡ true) (sym (left pool))
-          (lent_honoured (w pool) c.args.head c.args.block c.args.party c.args.slip c.first_vacant-number.result (omega arith) is n (ap (λ r. r.1) (e pool)));
+          subst (λ x. honours x (record { lease = m; bench = b.number; party = c.args.party }) ≡ true) (sym (left pool))
+          (lent_honoured (w pool) c.args.head c.args.block c.args.party c.args.slip m (omega arith) is n (ap (λ r. r.1) (e pool)));
     }

@@ -28,7 +28,7 @@ invariant_of-self g c =
       resting = every_true (rests 0) rests_zero (set b.lanes c.args.head (Some c.attempt-told.new.lane));
       unheld = apart;
       sooner = omega arith;
-      alive = c.any_live-self.ensures.value;
+      alive = c.any_live-self.ensures;
     }
 
 pub returns : goal.returns

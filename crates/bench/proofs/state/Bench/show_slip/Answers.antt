@@ -1,26 +1,33 @@
-use Rattle.std.proofs.Common.{◌≡◌, ◌+◌, ◌-◌, ◌*◌, take, drop, sym, ap, ◌∙◌, arith, rules}
+use Rattle.std.proofs.Common.{not, sym, ap, ◌∙◌}
 use Rattle.std.proofs.lemmas.Bool.{ltb-true}
-use Rattle.std.proofs.lemmas.Bool.Decides.{nat_tests}
-use Rattle.history.specs.Calls.{shown}
+use Rattle.refusal.specs.declared.Refusal.TheVariants.{WrongSize, NotHeld}
+use Rattle.history.specs.Bench.{bytes_in}
+use Rattle.history.specs.Calls.{answered, shown, buffer_in}
 use Rattle.bench.specs.Model.{world, named}
 use Rattle.bench.specs.Sound.{lease_ok}
-use Rattle.bench.proofs.Gives.{show_slip_wrong_size, show_slip_not_held, show_slip_shown}
+use Rattle.bench.proofs.Gives.{passed_on, show_slip_wrong_size, show_slip_not_held, show_slip_shown}
 use Rattle.bench.proofs.Sound.{every_at}
 use Rattle.bench.proofs.state.Bench.show_slip.Goals as goal
 
-pub returns-then-pool-ne2048 : goal.returns-then-pool-ne2048
-returns-then-pool-ne2048 g c = sym (ap (λ r. r.1) (show_slip_wrong_size (world g.D.Disk.meaning c.args.pool.now c.args.self.now) (named c.args.slip.now) (grind (arith, nat_tests))))
+pub returns-in_err-pool : goal.returns-in_err-pool
+returns-in_err-pool g c =
+    let k = c.in_err-pool.ensures in
+    let same = passed_on c.from_residual.result _ WrongSize c.from_residual.ensures.1 k.1 in
+    ap (answered (λ part. shown part.now)) same ∙ sym (ap (λ r. r.1) (show_slip_wrong_size (world g.D.Disk.meaning c.args.pool.now c.args.self.now) (named c.args.slip.now) (ap not k.0)))
 
-pub returns-then-not-honours : goal.returns-then-not-honours
-returns-then-not-honours g c = let out = c.if-not-honours.ensures.value in sym (ap (λ r. r.1) (show_slip_not_held (world g.D.Disk.meaning c.args.pool.now c.args.self.now) (named c.args.slip.now) (grind (arith, nat_tests)) (grind (arith, nat_tests))))
+pub returns-in_err-held : goal.returns-in_err-held
+returns-in_err-held g c =
+    let k = c.in_err-held.ensures in
+    let same = passed_on c.from_residual-in_err-held.result _ NotHeld c.from_residual-in_err-held.ensures.1 k.1 in
+    ap (answered (λ part. shown part.now)) same ∙ sym (ap (λ r. r.1) (show_slip_not_held (world g.D.Disk.meaning c.args.pool.now c.args.self.now) (named c.args.slip.now) (ap not c.in_ok-pool.ensures.0) (ap not k.0)))
 
-pub slice_bounds-result-end : goal.slice_bounds-result-end
-slice_bounds-result-end g c =
-    let h = ltb-true c.in-Some.held.buffer 32 (every_at lease_ok c.args.self.now.leases c.args.slip.now.lease c.in-Some.held c.args.self.now.lent c.in-Some.is) in
-    search rules
+pub part-requires : goal.part-requires
+part-requires g c =
+    let b = c.args.self.now in
+    ltb-true c.in_ok-held.held.buffer 32 (every_at lease_ok b.leases c.args.slip.now.numbers.lease c.in_ok-held.held b.lent c.in_ok-held.ensures.2)
 
 pub returns : goal.returns
 returns g c =
-    let out = c.if-not-honours.ensures.value in
-    let n : 64 * c.in-Some.held.buffer + 64 - 64 * c.in-Some.held.buffer ≡ 64 = omega arith in
-    ap (λ k. shown (take k (drop (64 * c.in-Some.held.buffer) c.args.pool.now))) n ∙ grind arith ∙ sym (ap (λ r. r.1) (show_slip_shown (world g.D.Disk.meaning c.args.pool.now c.args.self.now) (named c.args.slip.now) (grind (arith, nat_tests)) (grind (arith, nat_tests))))
+    let k = c.in_ok-held.ensures in
+    ap shown (c.part.ensures ∙ (λ i. bytes_in (c.in_ok-pool.ensures.1 i) (buffer_in (sym k.2 i))))
+    ∙ sym (ap (λ r. r.1) (show_slip_shown (world g.D.Disk.meaning c.args.pool.now c.args.self.now) (named c.args.slip.now) (ap not c.in_ok-pool.ensures.0) (ap not k.0)))

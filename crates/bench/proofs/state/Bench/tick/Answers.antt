@@ -5,8 +5,8 @@ use Rattle.history.specs.Calls.{Answer, all_aged, tick}
 use Rattle.bench.specs.Model.{world}
 use Rattle.bench.specs.Ticks.{no_fault, fault_in}
 use Rattle.bench.proofs.Rests.{all_later_sooner, quiet_choice, quiet_lanes, ends_none}
-use Rattle.bench.proofs.Ticks.{tick_served, served_idle, passed_is}
-use Rattle.bench.proofs.state.Bench.tick_with_ends.Goals as goal
+use Rattle.bench.proofs.Ticks.{tick_served, served_idle, passed_is, ends_told}
+use Rattle.bench.proofs.state.Bench.tick.Goals as goal
 
 pub returns-then-pool-ne2048 : goal.returns-then-pool-ne2048
 unfolding tick
@@ -53,6 +53,6 @@ returns g c =
     record {
       answer = c.pass-did.ensures.answer ∙ ap (λ (x : World × Answer). x.1) e;
       bench = c.pass-did.ensures.bench ∙ ap (λ (x : World × Answer). x.0) e;
-      ended = c.ended_since-ended.ensures c.args.self.now.lanes c.live_heads-was.ensures;
+      ended = ends_told c.args.self.now.lanes c.pass-did.new.self.lanes _ c.ended_since-ended.result (omega arith) c.live_heads-was.ensures c.ended_since-ended.ensures;
       origin = c.pass-did.ensures.origin;
     }

@@ -1,8 +1,0 @@
-use Rattle.std.proofs.Common.{not, take, filter}
-use Rattle.std.specs.List.{range_with_len}
-use Rattle.history.specs.Bench.{in_use}
-use Rattle.bench.proofs.Admits.{Gathered}
-use Rattle.bench.proofs.admission.lowest_free.Given as goal
-
-abbrev pub invariant-loop-buffer : goal.invariant-loop-buffer
-invariant-loop-buffer l = Gathered (filter (λ x. not (in_use l.lanes l.leases x)) (take l.buffer (range_with_len 0 32))) l.depth l.found l.buffers
