@@ -66,13 +66,6 @@ pub record GoneOn (r : Replay) (p : ℕ) (s : Replay) : Type 0 where
   pub release : s.release ≡ slice_set r.release (head_at r p) (ready (next_of (lane_at r p)))
   pub order : Requeued r.order p (due (next_of (lane_at r p)) * 8 + head_at r p) s.order
 
--- none of the first n lanes is released by t; the first of them is released at soon
-pub record Quiet (t : ℕ) (rs : List ℕ) (n soon : ℕ) : Type 0 where
-  pub ahead : t < soon
-  pub capped : soon ≤ 2000000
-  pub least : (k : ℕ) → k < n → soon ≤ slice_index rs k
-  pub some : soon < 2000000 → (k : ℕ) × (k < n) × (slice_index rs k ≤ soon)
-
 -- u is the first slot from t on at which a lane is released: t itself if one is already
 pub record Busy (t : ℕ) (rs : List ℕ) (u : ℕ) : Type 0 where
   pub from : t ≤ u

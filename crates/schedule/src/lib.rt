@@ -22,7 +22,7 @@ use scan::last_start;
 // The numbers of an order that say when its blocks are read: block i of `count` burns for `period` slots from
 // `start` + i·`period` on, through `depth` buffers in turn, and may fail `spare` times. Laid out as in C, for programs
 // that are held against this one.
-#[derive(Clone, Copy)]
+#[derive(Clone, Copy, PartialEq, Eq, Debug)]
 #[repr(C)]
 pub struct Timing {
     pub count: u32,
@@ -34,7 +34,7 @@ pub struct Timing {
 
 // What is left of a lane, which was admitted at slot `admitted`: its blocks from `next`, the lowest unread one, on.
 // `failed` attempts were made on that block; it means nothing once `next` is the count.
-#[derive(Clone, Copy)]
+#[derive(Clone, Copy, PartialEq, Eq, Debug)]
 #[repr(C)]
 pub struct Work {
     pub timing: Timing,

@@ -4,7 +4,8 @@ ghost use Rattle.std.specs.Prelude.{◌≡◌, ◌+◌, ◌-◌, ◌*◌, ◌<�
 use crate::Work;
 use refusal::Refusal;
 
-// Later than every release and deadline: the times of a lane with nothing left.
+// Later than every release and deadline: the times of a lane with nothing left. It is a number, since with an
+// `Option<u32>` for a release the replay takes 1.5 times as long as plain Rust does (287 µs for 190, measured there).
 pub(crate) const NEVER: u32 = 2_000_000;
 
 // Blocks `next` to `blocks` - 1 of a lane, with deadlines `period` apart from `start` on. The first `early` blocks are
