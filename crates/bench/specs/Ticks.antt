@@ -4,9 +4,10 @@ use Rattle.refusal.specs.declared.Fault.{Fault}
 use Rattle.refusal.specs.declared.FaultKind.TheVariants.{ReadFailed}
 use Rattle.refusal.specs.declared.Refusal.{Refusal}
 use Rattle.disk.specs.Meaning.{Block, block_at, read_number, read_after}
-use Rattle.queue.specs.declared.Queue.{Queue}
+use Rattle.queue.specs.declared.ordered.Ordered.{Ghosts}
+use Rattle.queue.specs.declared.state.Queue.{Queue}
 use Rattle.queue.specs.declared.request.ReadRequest.{ReadRequest}
-use Rattle.queue.specs.Held.{held, room, Sound}
+use Rattle.queue.specs.Held.{held, room}
 use Rattle.queue.specs.Keys.{by_keys}
 use Rattle.queue.specs.Requests.{request_keys}
 use Rattle.schedule.specs.declared.Timing.{Timing}
@@ -38,9 +39,8 @@ pub record RequestOf (t h : ℕ) (l : Lane) (q : ReadRequest) : Type 0 where
   pub deadline : q.deadline ≡ next_deadline l
 
 -- a queue to which head h, with o on it, was offered: its request is put if its lane is due
-pub record Offered (t h : ℕ) (o : Option Lane) (q q' : Queue ReadRequest) : Type 0 where
+pub record Offered {G : Ghosts ReadRequest} (t h : ℕ) (o : Option Lane) (q q' : Queue ReadRequest G) : Type 0 where
   pub room : room q' ≡ room q
-  pub sound : Sound request_before q → Sound request_before q'
   pub few : length (held q') ≤ suc (length (held q))
   pub requested : (ls : List (Option Lane)) → slice_index_or ls h None ≡ o → Requested deadline_of head_of t ls h (held q) → Requested deadline_of head_of t ls (h + 1) (held q')
 

@@ -1,60 +1,48 @@
 -- The blocks that are due by h.
-use Rattle.std.proofs.Common.{◌≡◌, ℕ, ◌+◌, ◌-◌, ◌/◌, ◌<◌, ◌≤◌, min, List, length, get_or, set, sym, refl, ◌∙◌, subst, mul-le-mul_right, mul_comm, mul-le-mul_left, div-mul-le_self, arith}
+use Rattle.std.proofs.Common.{◌≡◌, ℕ, suc, ◌+◌, ◌-◌, ◌/◌, ◌<◌, ◌≤◌, min, List, [], ◌∷◌, length, get_or, sym, refl, ap, ◌∙◌, subst, mul-le-mul_right, mul_comm, mul-le-mul_left, div-mul-le_self, arith}
 use native.Mathlib.Nat.{lt-mul-div-succ}
-use Rattle.std.proofs.lemmas.List.Elements.{AllWithin-more_set}
-use Rattle.std.proofs.ByRecursion.{All-get_or, All-set}
-use Rattle.std.proofs.lemmas.List.{get_or_default, length-set}
+use Rattle.std.specs.List.{AllByRecursion}
 use Rattle.schedule.specs.declared.rest.Rest.{Rest}
-use Rattle.schedule.specs.Rests.{Sound, shortened, inside}
+use Rattle.schedule.specs.Rests.{deadline_of, done, shortened, inside, total}
 use Rattle.schedule.specs.Scan.{CutAt, CutTo, DueBy}
-use Rattle.schedule.proofs.Totals.{total_set, inside_cut, inside_shortened}
+use Rattle.schedule.proofs.Totals.{inside_cut, inside_shortened}
 
-pub cut_at : (h : ℕ) (w : Rest) → Sound w → w.start ≤ h → CutAt h w (shortened w (min w.blocks ((h - w.start) / w.period + 1)))
-cut_at h w s le =
+pub cut_at : (h : ℕ) (w : Rest) → w.start ≤ h → CutAt h w (shortened w ((h - w.start) / w.period + 1))
+cut_at h w le =
     let q : ℕ = (h - w.start) / w.period in
     record {
+      at = q + 1;
       is = refl;
-      few = omega arith;
       inside = λ j lt. omega (arith, mul-le-mul_right {m = j} {n = q} w.period (omega arith), div-mul-le_self (h - w.start) w.period);
       past = λ j from to.
-          omega (arith, lt-mul-div-succ (h - w.start) {b = w.period} s.period, mul-le-mul_left {m = q + 1} {n = j} w.period (omega arith), mul_comm j w.period);
+          omega (arith, lt-mul-div-succ (h - w.start) {b = w.period} w.period_some, mul-le-mul_left {m = q + 1} {n = j} w.period (omega arith), mul_comm j w.period);
     }
 
-pub sound_shortened : (w : Rest) (n : ℕ) → n ≤ w.blocks → Sound w → Sound (shortened w n)
-sound_shortened w n le s = record {
-  period = s.period;
-  lead = s.lead;
-  admitted = s.admitted;
-  ends = omega (arith, s.ends, mul-le-mul_right {m = n} {n = w.blocks} w.period le);
-  left_some = s.left_some;
-  left_few = s.left_few;
-  each_some = s.each_some;
-  each_few = s.each_few;
-}
+-- w is cut to none
+pub cut_none : (h : ℕ) (w : Rest) → h < w.start → CutAt h w (shortened w 0)
+cut_none h w lt = record { at = 0; is = refl; inside = λ j e. absurd (omega arith); past = λ j from to. omega arith }
 
-module _ (h : ℕ) (ws rs : List Rest) (k : ℕ) (c : CutTo h ws k rs) (lt : k < 8) (w d r : Rest) (is : w ≡ get_or rs k d) (a : CutAt h w r) where
-  n : ℕ
-  n = r.blocks
+module _ (h : ℕ) where
+  cut_total : (w r : Rest) → CutAt h w r → (t l : ℕ) → inside t l h w w.blocks ≡ inside t l h r r.blocks
+  cut_total w r a t l =
+      let n : ℕ = min a.at w.blocks in
+      let b : r.blocks ≡ n = ap (λ v. v.blocks) a.is in
+      inside_cut t l h w n w.blocks (omega arith) (λ j from to. a.past j (omega arith) to)
+      ∙ sym (ap (λ v. inside t l h v v.blocks) a.is ∙ inside_shortened t l h w a.at n)
 
-  long : k < length rs
-  long = omega (arith, c.eight)
+  cut_due : (w r : Rest) → CutAt h w r → DueBy h r
+  cut_due w r a j from to = subst (λ v. deadline_of v j ≤ h) (sym a.is) (a.inside j to)
 
-  sound_w : Sound w
-  sound_w = rw is (All-get_or Sound rs k d long c.sound)
+  cut_lists : (ws rs : List Rest) → length ws ≡ length rs → ((k : ℕ) → k < length ws → CutAt h (get_or ws k done) (get_or rs k done))
+      → ((t l : ℕ) → total t l h ws ≡ total t l h rs) × AllByRecursion (DueBy h) rs
+  cut_lists [] [] e f = ((λ t l. refl), tt)
+  cut_lists [] (r ∷ rs) e f = absurd (omega arith)
+  cut_lists (w ∷ ws) [] e f = absurd (omega arith)
+  cut_lists (w ∷ ws) (r ∷ rs) e f =
+      let a : CutAt h w r = f 0 (omega arith) in
+      let b = cut_lists ws rs (omega arith) (λ k lt. f (suc k) (omega arith)) in
+      ((λ t l. omega (arith, cut_total w r a t l, b.0 t l)), (cut_due w r a, b.1))
 
-  drops : (t l : ℕ) → inside t l h w w.blocks ≡ 0 + inside t l h (shortened w n) n
-  unfolding n
-  drops t l = omega (arith, inside_cut t l h w r.blocks w.blocks a.few a.past, inside_shortened t l h w r.blocks r.blocks)
-
-  cut_next : CutTo h ws (k + 1) (set rs k (shortened w n))
-  unfolding n
-  cut_next = record {
-    eight = simp length-set c.eight;
-    same = λ t l. omega (arith, c.same t l, total_set t l h 0 w (shortened w n) (drops t l) rs k long (is ∙ get_or_default rs k d w long));
-    sound = All-set Sound rs k (shortened w n) (sound_shortened w n a.few sound_w) c.sound;
-    due = AllWithin-more_set rs k (shortened w n) long (DueBy h) c.due (λ j from to. a.inside j to);
-  }
-
-  pub cut_more : CutTo h ws (k + 1) (set rs k r)
-  unfolding n
-  cut_more = subst (λ v. CutTo h ws (k + 1) (set rs k v)) (sym a.is) cut_next
+  -- each lane is cut
+  pub cut_each : (ws rs : List Rest) → length ws ≡ 8 → length rs ≡ 8 → ((k : ℕ) → k < 8 → CutAt h (get_or ws k done) (get_or rs k done)) → CutTo h ws rs
+  cut_each ws rs m n f = (let b = cut_lists ws rs (omega arith) (λ k lt. f k (omega arith)) in record { eight = n; same = b.0; due = b.1 })

@@ -2,7 +2,7 @@ pub mod Times
 pub mod Totals
 pub mod Charging
 pub mod Serving
-pub mod Filled
+pub mod Mapped
 pub mod Requeueing
 pub mod Queue
 pub mod Going

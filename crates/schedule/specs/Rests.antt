@@ -1,22 +1,28 @@
 -- What is left of a lane, as the search uses it, and how many of its attempts lie in a span.
-use Rattle.std.specs.Prelude.{◌≡◌, ℕ, zero, suc, ◌+◌, ◌-◌, ◌*◌, ◌<◌, ◌≤◌, max, cond, ◌&&◌, List, [], ◌∷◌, ◌++◌, map, length, replicate, Option, MatchOption, ◌==◌, nat_le, nat_lt}
+use Rattle.std.specs.Prelude.{◌≡◌, ℕ, zero, suc, ◌+◌, ◌-◌, ◌*◌, ◌<◌, ◌≤◌, min, max, cond, ◌&&◌, List, [], ◌∷◌, length, Result, MatchResult, ◌==◌, nat_le, nat_lt}
+use Rattle.std.proofs.Common.{arith, mul-le-mul_right, lit<, lit≤}
+use Rattle.refusal.specs.declared.Refusal.{Refusal}
+use Rattle.refusal.specs.declared.Refusal.TheVariants.{Bounds}
 use Rattle.std.specs.List.{AllByRecursion}
 use Rattle.schedule.specs.Orders.{Proper}
 use Rattle.schedule.specs.declared.Work.{Work}
 use Rattle.schedule.specs.declared.rest.Rest.{Rest}
 
-abbrev pub rest : Work → Rest
-rest w = record {
-  start = w.timing.start;
-  period = w.timing.period;
-  early = w.timing.depth;
-  admitted = w.admitted;
-  lead = (w.timing.depth - 1) * w.timing.period;
-  next = w.next;
-  blocks = w.timing.count;
-  left = 1 + w.timing.spare - w.failed;
-  each = 1 + w.timing.spare;
-}
+-- r is what is left of w
+pub record IsRestOf (w : Work) (r : Rest) : Type 0 where
+  pub start : r.start ≡ w.timing.start
+  pub period : r.period ≡ w.timing.period
+  pub early : r.early ≡ w.timing.depth
+  pub admitted : r.admitted ≡ w.admitted
+  pub lead : r.lead ≡ (w.timing.depth - 1) * w.timing.period
+  pub next : r.next ≡ w.next
+  pub blocks : r.blocks ≡ w.timing.count
+  pub left : r.left ≡ 1 + w.timing.spare - w.failed
+  pub each : r.each ≡ 1 + w.timing.spare
+
+-- what is left of a work that is proper; another is refused
+abbrev pub RestIfProper : Work → Result Rest Refusal → Type 0
+RestIfProper w r = MatchResult r (λ out. Proper w × IsRestOf w out) (λ e. (e ≡ Bounds) × (Proper w → ⊥))
 
 -- the slot by which block j must be read, the first at which it may be, and the attempts owed to it
 abbrev pub deadline_of : Rest → ℕ → ℕ
@@ -28,17 +34,6 @@ release_of w j = cond (nat_lt j w.early) w.admitted (deadline_of w j - w.lead)
 abbrev pub owed_of : Rest → ℕ → ℕ
 owed_of w j = cond (nat_lt j w.next) 0 (cond (j == w.next) w.left w.each)
 
--- releases do not fall, lie before their deadlines, and all of it ends by the last slot
-pub record Sound (w : Rest) : Type 0 where
-  pub period : 0 < w.period
-  pub admitted : w.admitted ≤ w.start
-  pub lead : w.admitted + w.lead ≤ w.start + w.early * w.period
-  pub ends : w.start + w.blocks * w.period ≤ 1000000
-  pub left_some : 0 < w.left
-  pub left_few : w.left ≤ 16
-  pub each_some : 0 < w.each
-  pub each_few : w.each ≤ 16
-
 -- the release and the deadline of the next block, or what is later than every slot
 abbrev pub ready : Rest → ℕ
 ready w = cond (nat_lt w.next w.blocks) (release_of w w.next) 2000000
@@ -46,14 +41,35 @@ ready w = cond (nat_lt w.next w.blocks) (release_of w w.next) 2000000
 abbrev pub due : Rest → ℕ
 due w = cond (nat_lt w.next w.blocks) (deadline_of w w.next) 2000000
 
--- a lane with nothing left, and what is read past a list's end
+-- a lane with nothing left
 abbrev pub done : Rest
-done = record { start = 0; period = 1; early = 0; admitted = 0; lead = 0; next = 0; blocks = 0; left = 1; each = 1 }
-
-abbrev pub blank : Rest
-blank = record { start = 0; period = 0; early = 0; admitted = 0; lead = 0; next = 0; blocks = 0; left = 0; each = 0 }
+done = record {
+  start = 0;
+  period = 1;
+  early = 0;
+  admitted = 0;
+  lead = 0;
+  next = 0;
+  blocks = 0;
+  left = 1;
+  each = 1;
+  period_some = lit< tt;
+  admitted_first = lit≤ tt;
+  lead_within = lit≤ tt;
+  ends = lit≤ tt;
+  left_some = lit< tt;
+  left_few = lit≤ tt;
+  each_some = lit< tt;
+  each_few = lit≤ tt;
+}
 
 -- w after m attempts on its next block
+pub left_some_served : (l e m : ℕ) → 0 < l → 0 < e → 0 < cond (l - m == 0) e (l - m)
+left_some_served l e m p q = grind arith
+
+pub left_few_served : (l e m : ℕ) → l ≤ 16 → e ≤ 16 → cond (l - m == 0) e (l - m) ≤ 16
+left_few_served l e m p q = grind arith
+
 abbrev pub served : Rest → ℕ → Rest
 served w m = record {
   start = w.start;
@@ -65,9 +81,20 @@ served w m = record {
   blocks = w.blocks;
   left = cond (w.left - m == 0) w.each (w.left - m);
   each = w.each;
+  period_some = w.period_some;
+  admitted_first = w.admitted_first;
+  lead_within = w.lead_within;
+  ends = w.ends;
+  left_some = left_some_served w.left w.each m w.left_some w.each_some;
+  left_few = left_few_served w.left w.each m w.left_few w.each_few;
+  each_some = w.each_some;
+  each_few = w.each_few;
 }
 
 -- w without its blocks from n on
+pub ends_shortened : (s b p n : ℕ) → s + b * p ≤ 1000000 → s + min n b * p ≤ 1000000
+ends_shortened s b p n e = omega (arith, mul-le-mul_right {m = min n b} {n = b} p (omega arith))
+
 abbrev pub shortened : Rest → ℕ → Rest
 shortened w n = record {
   start = w.start;
@@ -76,9 +103,17 @@ shortened w n = record {
   admitted = w.admitted;
   lead = w.lead;
   next = w.next;
-  blocks = n;
+  blocks = min n w.blocks;
   left = w.left;
   each = w.each;
+  period_some = w.period_some;
+  admitted_first = w.admitted_first;
+  lead_within = w.lead_within;
+  ends = ends_shortened w.start w.blocks w.period n w.ends;
+  left_some = w.left_some;
+  left_few = w.left_few;
+  each_some = w.each_some;
+  each_few = w.each_few;
 }
 
 -- the attempts of the first n blocks, and of all lanes, whose windows at slot t lie in the span (l, h)
@@ -96,6 +131,12 @@ pub record OverAt (t h : ℕ) (ws : List Rest) : Type 0 where
   pub within : low ≤ h
   pub over : h < low + total t low h ws
 
--- what is left of the lanes of works that are all proper, filled up to eight
-abbrev pub RestsOf : List Work → Option (List Rest) → Type 0
-RestsOf ws r = MatchOption r (AllByRecursion Proper ws → ⊥) (λ out. AllByRecursion Proper ws × (out ≡ map rest ws ++ replicate (8 - length ws) done))
+-- what is left of each of ws in turn, and then lanes with nothing left
+abbrev pub LeftOf : List Work → List Rest → Type 0
+LeftOf [] rs = AllByRecursion (λ r. r.blocks ≡ 0) rs
+LeftOf (w ∷ ws) [] = ⊥
+LeftOf (w ∷ ws) (r ∷ rs) = IsRestOf w r × LeftOf ws rs
+
+-- what is left of eight lanes, the first of which are those of works that are all proper; others are refused
+abbrev pub RestsOf : List Work → Result (List Rest) Refusal → Type 0
+RestsOf ws r = MatchResult r (λ out. AllByRecursion Proper ws × (length out ≡ 8) × LeftOf ws out) (λ e. (e ≡ Bounds) × (AllByRecursion Proper ws → ⊥))

@@ -12,16 +12,17 @@ ghost use Rattle.schedule.specs.Rests.{RestsOf};
 mod replay;
 mod rest;
 mod scan;
+mod ticket;
 
 use refusal::{Refusal, Span};
 use replay::first_end;
-use rest::{DONE, Rest, rest_of};
+use rest::Rest;
 use scan::last_start;
 
 // The numbers of an order that say when its blocks are read: block i of `count` burns for `period` slots from
 // `start` + i·`period` on, through `depth` buffers in turn, and may fail `spare` times. Laid out as in C, for programs
 // that are held against this one.
-#[derive(Clone, Copy, Default)]
+#[derive(Clone, Copy, PartialEq, Eq, Default, Debug)]
 #[repr(C)]
 pub struct Timing {
     pub count: u32,
@@ -33,7 +34,7 @@ pub struct Timing {
 
 // What is left of a lane, which was admitted at slot `admitted`: its blocks from `next`, the lowest unread one, on.
 // `failed` attempts were made on that block; it means nothing once `next` is the count.
-#[derive(Clone, Copy, Default)]
+#[derive(Clone, Copy, PartialEq, Eq, Default, Debug)]
 #[repr(C)]
 pub struct Work {
     pub timing: Timing,
@@ -53,23 +54,14 @@ pub fn overfull(slot: u32, work: &[Work]) -> Result<Option<Span>, Refusal>
     ensures span { FirstOverfullOrNone (charged slot work.now) result }
     ensures assigned { NoneExactlyWhenAssigned (charged slot work.now) result }
 {
-    if slot > LAST {
+    if slot > LAST || work.len() > 8 {
         return Err(Refusal::Bounds);
     }
-    if work.len() > 8 {
-        return Err(Refusal::Bounds);
-    }
-    let lanes = rests(work);
-    let Some(lanes) = lanes else {
-        return Err(Refusal::Bounds);
-    };
-    match first_end(slot, &lanes) {
-        None => Ok(None),
-        Some(h) => Ok(Some(Span {
-            l: last_start(slot, h, &lanes),
-            h,
-        })),
-    }
+    let lanes = rests(work)?;
+    Ok(first_end(slot, &lanes).map(|h| Span {
+        l: last_start(slot, h, &lanes),
+        h,
+    }))
 }
 
 impl Timing {
@@ -77,22 +69,12 @@ impl Timing {
     pub fn within_limits(&self) -> bool
         ensures { Decides result (WithinLimits self.now) }
     {
-        if self.count < 1 || self.count > 4096 {
-            return false;
-        }
-        if self.start > LAST {
-            return false;
-        }
-        if self.period < 1 || self.period > 10_000 {
-            return false;
-        }
-        if self.depth < 2 || self.depth > 8 {
-            return false;
-        }
-        if self.spare > 15 {
-            return false;
-        }
-        self.deadline(self.count) <= LAST as u64
+        (1..=4096).contains(&self.count)
+            && self.start <= LAST
+            && (1..=10_000).contains(&self.period)
+            && (2..=8).contains(&self.depth)
+            && self.spare <= 15
+            && self.deadline(self.count) <= LAST as u64
     }
 
     // The slot by which `block` must be read: its burn begins.
@@ -119,16 +101,10 @@ impl Work {
     pub fn is_proper(&self) -> bool
         ensures { Decides result (Proper self.now) }
     {
-        if !self.timing.within_limits() {
-            return false;
-        }
-        if self.admitted > self.timing.start {
-            return false;
-        }
-        if self.next > self.timing.count {
-            return false;
-        }
-        self.failed <= self.timing.spare
+        self.timing.within_limits()
+            && self.admitted <= self.timing.start
+            && self.next <= self.timing.count
+            && self.failed <= self.timing.spare
     }
 }
 
@@ -139,17 +115,14 @@ pub fn laws_of_schedule()
     ensures examples { ExamplesHold }
 {}
 
-// What is left of each lane, and lanes with nothing left up to eight; none if some work is not proper.
-fn rests(work: &[Work]) -> Option<[Rest; 8]>
+// What is left of each lane, and lanes with nothing left up to eight; it refuses work that is not proper.
+fn rests(work: &[Work]) -> Result<[Rest; 8], Refusal>
     requires { length work.now ≤ 8 }
     ensures { RestsOf work.now result }
 {
-    let mut out = [DONE; 8];
-    for k in 0..work.len() {
-        if !work[k].is_proper() {
-            return None;
-        }
-        out[k] = rest_of(&work[k]);
+    let mut out = [Rest::DONE; 8];
+    for (k, w) in work.iter().enumerate() {
+        out[k] = Rest::try_from(w)?;
     }
-    Some(out)
+    Ok(out)
 }

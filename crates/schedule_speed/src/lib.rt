@@ -8,7 +8,8 @@ ghost use Rattle.schedule_speed.specs.Code.{Coded};
 
 use schedule::{Work, overfull};
 
-// What `overfull` answers, as one number: l·2³² + h for a span, 2⁶⁴ - 1 for none, 2⁶⁴ - 2 for a refusal.
+// What `overfull` answers, as one number, since C has no `Result` and no `Option`: l·2³² + h for a span, 2⁶⁴ - 1 for
+// none, 2⁶⁴ - 2 for a refusal.
 #[unsafe(no_mangle)]
 pub extern "C" fn schedule_overfull_code(slot: u32, work: &[Work]) -> u64
     ensures { Coded slot work.now result }

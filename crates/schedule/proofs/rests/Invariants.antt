@@ -1,8 +1,8 @@
-use Rattle.std.proofs.Common.{◌≡◌, ◌-◌, ◌++◌, map, take, replicate}
+use Rattle.std.proofs.Common.{◌≡◌, length, take}
 use Rattle.std.specs.List.{AllByRecursion}
 use Rattle.schedule.specs.Orders.{Proper}
-use Rattle.schedule.specs.Rests.{rest, done}
+use Rattle.schedule.specs.Rests.{LeftOf}
 use Rattle.schedule.proofs.rests.Given as goal
 
 abbrev pub invariant-loop-k : goal.invariant-loop-k
-invariant-loop-k l = AllByRecursion Proper (take l.k l.work) × (l.out ≡ take l.k (map rest l.work) ++ replicate (8 - l.k) done)
+invariant-loop-k l = AllByRecursion Proper (take l.k l.work) × (length l.out ≡ 8) × LeftOf (take l.k l.work) l.out

@@ -11,7 +11,7 @@ use Rattle.bench.proofs.ticking.offer.Goals as goal
 pub returns-in_default : goal.returns-in_default
 returns-in_default c =
     let t = c.args.slot in
-    record { room = refl; sound = λ s. s; few = omega arith; requested = λ ls at r. requested_past deadline_of head_of t ls c.args.head _ (subst (λ x. due t (lane_in x) ≡ false) (sym at) c.in_default.ensures) r }
+    record { room = refl; few = omega arith; requested = λ ls at r. requested_past deadline_of head_of t ls c.args.head _ (subst (λ x. due t (lane_in x) ≡ false) (sym at) c.in_default.ensures) r }
 
 pub returns : goal.returns
 returns c =
@@ -24,7 +24,6 @@ returns c =
     let s = put_in _ _ c.put.result _ _ c.requires.1 told.answer told.held in
     record {
       room = told.room;
-      sound = told.sound;
       few = omega (arith, length_permutation (x ∷ xs) ys s);
       requested = λ ls at r. requested_shuffled deadline_of head_of t ls _ (x ∷ xs) ys s (requested_more deadline_of head_of t ls c.args.head x xs (subst (λ o. due t (lane_in o) ≡ true) (sym at) q.is_due) q.head (subst (λ o. x.deadline ≡ next_deadline (lane_in o)) (sym at) q.deadline) r);
     }

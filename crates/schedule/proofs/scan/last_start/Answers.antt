@@ -1,37 +1,19 @@
-use Rattle.std.proofs.Common.{refl, arith}
-use Rattle.schedule.proofs.Scanning.{scan_starts, scan_goes, scan_ends, scan_again, left_w, few_x, some_x}
+use Rattle.std.proofs.Common.{rules}
+use Rattle.schedule.specs.Rests.{done}
+use Rattle.schedule.specs.Scan.{CutAt}
+use Rattle.schedule.proofs.Mapped.{mapped}
+use Rattle.schedule.proofs.Cutting.{cut_each}
+use Rattle.schedule.proofs.Scanning.{scan_starts, scan_goes, scan_ends, scan_again}
 use Rattle.schedule.proofs.scan.last_start.Goals as goal
 
-pub loop-slot-init : goal.loop-slot-init
-loop-slot-init c = scan_starts _ _ _ _ c.cut-lanes.ensures
+pub loop-counted-init : goal.loop-counted-init
+loop-counted-init c = scan_starts _ _ _ _ (cut_each _ _ _ c.told-work c.map-lanes.ensures.items.long (mapped _ _ (CutAt c.args.h) (λ x y q made. (search rules, search rules)) _ _ done done 8 c.map-lanes.ensures.items))
 
-pub unreachable-requires : goal.unreachable-requires
-unreachable-requires c = scan_goes _ _ _ _ _ _ _ c.loop-slot.invariant c.latest-top.ensures c.requires.1.1 c.if-top-eq8.true
-
-pub last_owed-counted-requires : goal.last_owed-counted-requires
-last_owed-counted-requires c = left_w _ _ _ _ _ _ _ c.loop-slot.invariant c.latest-top.ensures _ refl (omega arith) _ refl
-
-pub overflow_add-counted : goal.overflow_add-counted
-overflow_add-counted c =
-    omega (
-      arith,
-      c.loop-slot.invariant.room,
-      few_x _ _ _ _ _ _ _ c.loop-slot.invariant c.latest-top.ensures _ refl (omega arith) c.last_owed-counted.result c.last_owed-counted.ensures,
-    )
+pub unwrap-top-requires : goal.unwrap-top-requires
+unwrap-top-requires c = scan_goes _ _ _ _ _ c.loop-counted.invariant c.requires.1 _ c.latest.ensures
 
 pub returns-then-counted-h : goal.returns-then-counted-h
-returns-then-counted-h c =
-    scan_ends _ _ _ _ _ _ _ c.loop-slot.invariant c.latest-top.ensures _ refl (omega arith) _ c.last_owed-counted.ensures (omega arith)
+returns-then-counted-h c = scan_ends _ _ _ _ _ c.loop-counted.invariant _ _ c.unwrap-top.ensures c.latest.ensures c.index-lanes-top.result _ c.last_owed-counted.ensures c.if-counted-h.true
 
-pub loop-slot-smaller : goal.loop-slot-smaller
-loop-slot-smaller c =
-    omega (
-      arith,
-      c.loop-slot.invariant.room,
-      some_x _ _ _ _ _ _ _ c.loop-slot.invariant c.latest-top.ensures _ refl (omega arith) c.last_owed-counted.result c.last_owed-counted.ensures,
-    )
-
-pub loop-slot-preserved : goal.loop-slot-preserved
-loop-slot-preserved c =
-    scan_again _ _ _ _ _ _ _ c.loop-slot.invariant c.latest-top.ensures _ refl (omega arith) _ c.last_owed-counted.ensures (omega arith)
-    _ c.shorten.ensures
+pub loop-counted-preserved : goal.loop-counted-preserved
+loop-counted-preserved c = scan_again _ _ _ _ _ c.loop-counted.invariant _ _ c.unwrap-top.ensures c.latest.ensures c.index-lanes-top.result _ c.last_owed-counted.ensures c.if-counted-h.false _ c.shorten.ensures

@@ -2,8 +2,8 @@ use Rattle.std.proofs.Common.{◌-◌}
 use Rattle.schedule.specs.Scan.{Scanning}
 use Rattle.schedule.proofs.scan.last_start.Given as goal
 
-abbrev pub invariant-loop-slot : goal.invariant-loop-slot
-invariant-loop-slot l = Scanning l.slot l.h l.work l.lanes l.counted
+abbrev pub invariant-loop-counted : goal.invariant-loop-counted
+invariant-loop-counted l = Scanning l.slot l.h l.work l.lanes l.counted
 
-abbrev pub decreases-loop-slot : goal.decreases-loop-slot
-decreases-loop-slot l = l.h - l.counted
+abbrev pub decreases-loop-counted : goal.decreases-loop-counted
+decreases-loop-counted l = l.h - l.counted

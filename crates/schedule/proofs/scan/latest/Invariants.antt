@@ -1,5 +1,5 @@
 use Rattle.schedule.specs.Scan.{Latest}
 use Rattle.schedule.proofs.scan.latest.Given as goal
 
-abbrev pub invariant-loop-k : goal.invariant-loop-k
-invariant-loop-k l = Latest l.slot l.h l.work l.k l.best l.low
+abbrev pub invariant-loop-head : goal.invariant-loop-head
+invariant-loop-head l = Latest l.slot l.h l.lanes l.head l.top
