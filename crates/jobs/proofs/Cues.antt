@@ -1,5 +1,6 @@
 -- The cues of a slot, one after the other.
 use Rattle.std.proofs.Common.{◌≡◌, ℕ, ◌<◌, ◌≤◌, false, leb, List, [], ◌∷◌, ◌++◌, length, Some, None, Option, sym, refl, ap, ◌∙◌, subst, append_assoc, append-nil, arith, MatchOption}
+use Rattle.std.specs.Option.{option_map}
 use Rattle.std.specs.Cmp.{IsStrictWeakOrder}
 use Rattle.std.specs.List.Sorted.{IsPermutation}
 use Rattle.std.proofs.lemmas.List.Sorted.{length_permutation}
@@ -30,10 +31,18 @@ head_some : (ds : List Due) (d : Due) → head ds ≡ Some d → (rest : List Du
 head_some [] d e = absurd (let z : ◌≡◌ {A = ℕ} 0 1 = cc in omega arith)
 head_some (x ∷ ds) d e = (ds, let same : x ≡ d = cc in ap (λ y. y ∷ ds) same)
 
+slot_of_head : (ds : List Due) → option_map (λ d. d.slot) (head ds) ≡ first_slot ds
+slot_of_head [] = refl
+slot_of_head (d ∷ ds) = refl
+
 module _ (hs : List Due) where
   pub none_waits : None ≡ least due_before hs → in_order due_before hs ≡ []
   unfolding least
   none_waits e = head_none (in_order due_before hs) (sym e)
+
+  pub slot_waits : (r : Option Due) → r ≡ least due_before hs → option_map (λ d. d.slot) r ≡ first_slot (in_order due_before hs)
+  unfolding least
+  slot_waits r e = ap (option_map (λ d. d.slot)) e ∙ slot_of_head (in_order due_before hs)
 
   pub one_waits : (d : Due) → Some d ≡ least due_before hs → (rest : List Due) × (in_order due_before hs ≡ d ∷ rest)
   unfolding least

@@ -49,7 +49,7 @@ plain_ticked (Failed h i a f) = Failed h i a no_fault
 
 abbrev pub bare : Answer → Answer
 bare (ticked x) = ticked (plain_ticked x)
-bare (reported r) = reported (record { cause = r.cause; next = r.next; failed = r.failed; fault = None })
+bare (reported r) = reported (record { stage = plain_stage r.stage; next = r.next; failed = r.failed })
 bare (refused ns) = refused ns
 bare done = done
 bare (leased m) = leased m
@@ -71,6 +71,13 @@ cause_plain Finished = refl
 cause_plain (Faulted f) = refl
 cause_plain Held = refl
 cause_plain Closed = refl
+
+stage_plain : (s : Stage) → plain_stage (plain_stage s) ≡ plain_stage s
+stage_plain Live = refl
+stage_plain Finished = refl
+stage_plain (Faulted f) = refl
+stage_plain Held = refl
+stage_plain Closed = refl
 
 is_some_plain : (o : Option Lane) → is_some (changed plain_lane o) ≡ is_some o
 is_some_plain None = refl
@@ -229,7 +236,7 @@ close_follows w h =
       world = relaned w _ _ (set_plain w.lanes h None);
       answer =
           ap (λ (x : Lane). bare (reported (report_of x))) closing
-          ∙ (λ k. reported (record { cause = cause_plain l.stage k; next = l.next; failed = l.failed; fault = None }));
+          ∙ (λ k. reported (record { stage = stage_plain l.stage k; next = l.next; failed = l.failed }));
     })
 
 -- TICKS

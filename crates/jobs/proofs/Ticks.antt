@@ -1,9 +1,11 @@
 -- A tick's lines.
 use Rattle.std.proofs.Common.{◌≡◌, ℕ, suc, ◌+◌, ◌<◌, ◌≤◌, Bool, true, false, cond, eqb, List, [], ◌∷◌, ◌++◌, length, get_or, drop, IfOk, Some, None, Option, Result, sym, refl, ap, ◌∙◌, append_assoc, append-nil, add-one, arith}
+use Rattle.std.specs.List.{list_all}
+use Rattle.std.specs.Option.{is_none}
 use Rattle.std.specs.declared.alloc.AllocError.{AllocError}
 use Rattle.std.proofs.lemmas.List.{drop_all, drop_more}
 use Rattle.std.proofs.lemmas.Result.{IfOk-weaker}
-use Rattle.std.proofs.lemmas.Bool.{cond_both, eq-eqb, ne_eqb, not_from_true}
+use Rattle.std.proofs.lemmas.Bool.{cond_both, eq-eqb, ne_eqb, false≢true, not_from_true}
 use Rattle.refusal.specs.declared.Fault.{Fault}
 use Rattle.disk.specs.Meaning.{read_number}
 use Rattle.history.specs.declared.Cause.{Cause}
@@ -11,7 +13,7 @@ use Rattle.history.specs.declared.Ticked.{Ticked}
 use Rattle.history.specs.Bench.{World, lane_at}
 use Rattle.history.specs.Calls.{Answer, refused, done, ticked, leased, slipped, shown, reported, choice, next_block, passed, served, tick, tick_checks, ends}
 use Rattle.history.proofs.Checks.{passes}
-use Rattle.jobs.specs.Lines.{did_line, tick_line, ended_line, ended_lines, NoneIn}
+use Rattle.jobs.specs.Lines.{did_line, tick_line, ended_line, ended_lines}
 use Rattle.jobs.specs.Run.{SlotPassed}
 
 -- the lanes that ended, from head h on
@@ -27,10 +29,10 @@ pub ended_all : (slot h : ℕ) (cs : List (Option Cause)) (log all : List ℕ) �
 ended_all slot h cs log all le so_far = sym (append-nil log) ∙ (ap (λ (xs : List (Option Cause)). log ++ ended_lines slot h xs) (sym (drop_all h cs le)) ∙ so_far)
 
 -- where no lane ended there is no line
-pub lines_none : (slot h : ℕ) (cs : List (Option Cause)) → NoneIn cs → ended_lines slot h cs ≡ []
+pub lines_none : (slot h : ℕ) (cs : List (Option Cause)) → list_all is_none cs ≡ true → ended_lines slot h cs ≡ []
 lines_none slot h [] none = refl
-lines_none slot h (None ∷ cs) none = lines_none slot (suc h) cs (λ k. none (suc k))
-lines_none slot h (Some cause ∷ cs) none = let e : Some cause ≡ None = none 0 in cc
+lines_none slot h (None ∷ cs) none = lines_none slot (suc h) cs none
+lines_none slot h (Some cause ∷ cs) none = absurd (false≢true none)
 
 -- THE TICK
 

@@ -1,5 +1,5 @@
 -- What the log says of each call and its answer.
-use Rattle.std.specs.Prelude.{◌≡◌, ℕ, suc, cond, List, [], ◌∷◌, ◌++◌, drop, Some, None, codes, decimal, Option, ◌==◌, slice_index, slice_index_or}
+use Rattle.std.specs.Prelude.{ℕ, suc, cond, List, [], ◌∷◌, ◌++◌, drop, Some, None, codes, decimal, Option, ◌==◌, slice_index}
 use Rattle.cues.specs.declared.Call.{Call}
 use Rattle.cues.specs.declared.Call.TheVariants.{Order, Take, Give, Close}
 use Rattle.history.specs.Calls.{Answer, refused, done, ticked, leased, slipped, shown, reported, cause_number}
@@ -74,10 +74,6 @@ ended_line slot head (Some cause) = line slot 101 (head ∷ cause_number cause �
 abbrev pub ended_lines : ℕ → ℕ → List (Option Cause) → List ℕ
 ended_lines slot head [] = []
 ended_lines slot head (c ∷ cs) = ended_line slot head c ++ ended_lines slot (suc head) cs
-
--- no lane ended
-abbrev pub NoneIn : List (Option Cause) → Type 0
-NoneIn cs = (h : ℕ) → slice_index_or cs h None ≡ None
 
 -- THE END
 

@@ -9,6 +9,7 @@ use Rattle.layers.specs.declared.plan.Entry.{Entry}
 use Rattle.image.specs.Images.{image_meaning}
 use Rattle.queue.specs.Order.{in_order}
 use Rattle.history.specs.Bench.{World, running}
+use Rattle.history.specs.declared.Asked.{Asked}
 use Rattle.history.specs.declared.Lane.{Lane}
 use Rattle.history.specs.Calls.{Answer, refuse, new, admit, tick, take_block, give, close, ends}
 use Rattle.bench.specs.Orders.{asking}
@@ -16,17 +17,20 @@ use Rattle.bench.specs.Sound.{order_ok}
 use Rattle.cues.specs.declared.Call.{Call}
 use Rattle.cues.specs.declared.Call.TheVariants.{Order, Take, Give, Close}
 use Rattle.cuelists.specs.Dues.{due_before}
-use Rattle.cuelists.specs.Lists.{Outcome, Sofar, reason_number, list_read}
+use Rattle.cuelists.specs.Lists.{Outcome, Sofar, reason_number, fault_place, list_read}
 use Rattle.cuelists.specs.declared.due.Due.{Due}
 use Rattle.cuelists.specs.declared.list.ListFault.{ListFault}
 use Rattle.jobs.specs.Lines.{cue_line, tick_line, ended_lines, done_line, fault_line}
 
 -- CUES
 
--- a cue's call; an order outside its limits is refused with Bounds, and is no call of the bench
+-- an order; outside its limits it is refused with Bounds, and is no call of the bench
+abbrev pub ordered : World → Asked → World × Answer
+ordered w a = cond (order_ok a) (admit w a) (w, refuse Bounds)
+
+-- a cue's call
 abbrev pub called : World → Call → World × Answer
-called w (Order head first count start period depth spare) =
-    cond (order_ok (asking head first count start period depth spare)) (admit w (asking head first count start period depth spare)) (w, refuse Bounds)
+called w (Order head first count start period depth spare) = ordered w (asking head first count start period depth spare)
 called w (Take head block party) = take_block w head block party false
 called w (Give party lease) = give w party lease
 called w (Close head) = close w head
@@ -114,7 +118,7 @@ abbrev pub job_bench : List ℕ → List Entry → World
 job_bench image entries = new 0 (job_disk image entries) (replicate 2048 0)
 
 abbrev pub list_text : (ℕ → Fault) → List ℕ → Sofar → Option ListFault → List ℕ
-list_text told image s (Some f) = fault_line (reason_number f.reason) f.line f.place
+list_text told image s (Some f) = fault_line (reason_number f.reason) f.line (fault_place f)
 list_text told image s None = slots_run told 1000000 (job_bench image s.entries) (in_order due_before s.calls)
 
 -- a list, read with room for 512 calls

@@ -4,15 +4,16 @@ ghost use Rattle.refusal.specs.Told.{answer_number};
 ghost use Rattle.history.specs.Calls.{answered, done, close};
 ghost use Rattle.bench.specs.Model.{world};
 ghost use Rattle.loglines.specs.Text.{log_line};
-ghost use Rattle.cues.specs.declared.Call.TheVariants.{Order as Orders};
 ghost use Rattle.jobs.specs.Lines.{cue_line, number_of};
-ghost use Rattle.jobs.specs.Run.{called};
+ghost use Rattle.jobs.specs.Run.{called, ordered};
 
 use bench::{Bench, Order};
 use cues::Call;
 use disk::Disk;
+use history::Asked;
 use loglines::LogLine;
 use refusal::Refusal;
+use schedule::Timing;
 
 // Makes a cue's call at the slot that the bench is at, and answers its line of the log.
 pub(crate) fn call<D: Disk>(bench: &mut Bench<D>, asked: &Call) -> LogLine
@@ -30,7 +31,19 @@ pub(crate) fn call<D: Disk>(bench: &mut Bench<D>, asked: &Call) -> LogLine
             depth,
             spare,
         } => {
-            let answer = order(bench, head, first, count, start, period, depth, spare);
+            let timing = Timing {
+                count,
+                start,
+                period,
+                depth,
+                spare,
+            };
+            let asked = Asked {
+                head,
+                first,
+                timing,
+            };
+            let answer = order(bench, asked);
             LogLine::Order { slot, head, answer }
         }
         Call::Take { head, block, party } => {
@@ -59,24 +72,12 @@ pub(crate) fn call<D: Disk>(bench: &mut Bench<D>, asked: &Call) -> LogLine
     }
 }
 
-// Admits the order of a cue, where its numbers make one.
-fn order<D: Disk>(
-    bench: &mut Bench<D>,
-    head: u32,
-    first: u32,
-    count: u32,
-    start: u32,
-    period: u32,
-    depth: u32,
-    spare: u32,
-) -> Result<(), Refusal>
-    ensures answer { (pool : List ℕ) → answered (λ _. done) result ≡ (called (world D.Disk.meaning pool bench.old) (Orders head first count start period depth spare)).1 }
-    ensures bench { (pool : List ℕ) → world D.Disk.meaning pool bench.new ≡ (called (world D.Disk.meaning pool bench.old) (Orders head first count start period depth spare)).0 }
+// Admits what a cue asks for, where its numbers make an order.
+fn order<D: Disk>(bench: &mut Bench<D>, asked: Asked) -> Result<(), Refusal>
+    ensures answer { (pool : List ℕ) → answered (λ _. done) result ≡ (ordered (world D.Disk.meaning pool bench.old) asked).1 }
+    ensures bench { (pool : List ℕ) → world D.Disk.meaning pool bench.new ≡ (ordered (world D.Disk.meaning pool bench.old) asked).0 }
 {
-    match Order::new(head, first, count, start, period, depth, spare) {
-        Ok(order) => bench.admit(order),
-        Err(refusal) => Err(refusal),
-    }
+    bench.admit(Order::new(asked)?)
 }
 
 // Closes a head. The log says no more of it than whether it was refused.
@@ -84,8 +85,5 @@ fn close<D: Disk>(bench: &mut Bench<D>, head: u32) -> Result<(), Refusal>
     ensures answer { (pool : List ℕ) → answer_number result ≡ number_of (close (world D.Disk.meaning pool bench.old) head).1 }
     ensures bench { (pool : List ℕ) → world D.Disk.meaning pool bench.new ≡ (close (world D.Disk.meaning pool bench.old) head).0 }
 {
-    match bench.close(head) {
-        Ok(_) => Ok(()),
-        Err(refusal) => Err(refusal),
-    }
+    bench.close(head).map(|_| ())
 }

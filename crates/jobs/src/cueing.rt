@@ -1,6 +1,6 @@
 // The cues of a slot, by slot and line.
 ghost use Rattle.std.specs.Prelude.{◌≡◌, ℕ, List, IfOk};
-ghost use Rattle.queue.specs.Held.{held, Sound};
+ghost use Rattle.queue.specs.Held.{held};
 ghost use Rattle.queue.specs.Order.{in_order};
 ghost use Rattle.bench.specs.Model.{world};
 ghost use Rattle.cuelists.specs.Dues.{due_before};
@@ -22,10 +22,8 @@ pub(crate) fn run_due<D: Disk>(
     queue: &mut Queue<Due>,
     log: &mut Vec<u8>,
 ) -> Result<Option<u32>, AllocError>
-    requires sound { Sound due_before queue.old }
-    requires first { next ≡ first_slot (in_order due_before (held queue.old)) }
-    ensures ran { IfOk result (λ n. (pool : List ℕ) → CuesRun (world D.Disk.meaning pool bench.old) (in_order due_before (held queue.old)) log.old.items n (world D.Disk.meaning pool bench.new) (in_order due_before (held queue.new)) log.new.items) }
-    ensures sound { Sound due_before queue.new }
+    requires { next ≡ first_slot (in_order due_before (held queue.old)) }
+    ensures { IfOk result (λ n. (pool : List ℕ) → CuesRun (world D.Disk.meaning pool bench.old) (in_order due_before (held queue.old)) log.old.items n (world D.Disk.meaning pool bench.new) (in_order due_before (held queue.new)) log.new.items) }
 {
     if !has_come(next, bench.slot()) {
         return Ok(next);
@@ -36,10 +34,7 @@ pub(crate) fn run_due<D: Disk>(
 fn has_come(next: Option<u32>, slot: u32) -> bool
     ensures { result ≡ come next slot }
 {
-    match next {
-        Some(at) => at <= slot,
-        None => false,
-    }
+    next.is_some_and(|at| at <= slot)
 }
 
 fn run_cues<D: Disk>(
@@ -47,9 +42,7 @@ fn run_cues<D: Disk>(
     queue: &mut Queue<Due>,
     log: &mut Vec<u8>,
 ) -> Result<Option<u32>, AllocError>
-    requires { Sound due_before queue.old }
-    ensures ran { IfOk result (λ n. (pool : List ℕ) → CuesRun (world D.Disk.meaning pool bench.old) (in_order due_before (held queue.old)) log.old.items n (world D.Disk.meaning pool bench.new) (in_order due_before (held queue.new)) log.new.items) }
-    ensures sound { Sound due_before queue.new }
+    ensures { IfOk result (λ n. (pool : List ℕ) → CuesRun (world D.Disk.meaning pool bench.old) (in_order due_before (held queue.old)) log.old.items n (world D.Disk.meaning pool bench.new) (in_order due_before (held queue.new)) log.new.items) }
 {
     while let Some(due) = queue.first() {
         if due.slot > bench.slot() {

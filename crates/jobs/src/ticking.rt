@@ -1,8 +1,10 @@
 // One tick's lines.
 ghost use Rattle.std.specs.Prelude.{◌≡◌, ◌<◌, true, ◌++◌, length, OnOk};
+ghost use Rattle.std.specs.List.{list_all};
+ghost use Rattle.std.specs.Option.{is_none};
 ghost use Rattle.history.specs.Calls.{cause_number};
 ghost use Rattle.bench.specs.Model.{world};
-ghost use Rattle.jobs.specs.Lines.{did_line, ended_line, ended_lines, NoneIn};
+ghost use Rattle.jobs.specs.Lines.{did_line, ended_line, ended_lines};
 ghost use Rattle.jobs.specs.Run.{SlotPassed};
 
 use crate::writing::add;
@@ -22,13 +24,11 @@ pub(crate) fn tick<D: Disk>(
     ensures { OnOk result (SlotPassed (world D.Disk.meaning pool.old bench.old) log.old.items (world D.Disk.meaning pool.new bench.new) log.new.items) }
 {
     let slot = bench.slot();
-    match bench.tick_with_ends(pool) {
-        Ok(tick) => {
-            add_did(log, slot, &tick.did)?;
-            add_ended(log, bench.slot(), &tick.ended)
-        }
-        Err(_) => unreachable(),
-    }
+    let Ok(tick) = bench.tick(pool) else {
+        unreachable()
+    };
+    add_did(log, slot, &tick.did)?;
+    add_ended(log, bench.slot(), &tick.ended)
 }
 
 fn add_did(log: &mut Vec<u8>, slot: u32, did: &Ticked) -> Result<(), AllocError>
@@ -60,21 +60,17 @@ fn add_ended(log: &mut Vec<u8>, slot: u32, ended: &[Option<Cause>; 8]) -> Result
     if is_none_ended(ended) {
         return Ok(());
     }
-    for head in 0..8u32 {
-        add_end(log, slot, head, ended[head as usize])?;
+    for (head, end) in ended.iter().enumerate() {
+        add_end(log, slot, head as u32, *end)?;
     }
     Ok(())
 }
 
 // Whether no lane ended, as in nearly every slot: so such a slot has no further look at the heads.
 fn is_none_ended(ended: &[Option<Cause>; 8]) -> bool
-    ensures { result ≡ true → NoneIn ended.now }
+    ensures { result ≡ list_all is_none ended.now }
 {
-    let mut none = true;
-    for head in 0..8 {
-        none = none & ended[head].is_none();
-    }
-    none
+    ended.iter().all(|end| end.is_none())
 }
 
 fn add_end(log: &mut Vec<u8>, slot: u32, head: u32, end: Option<Cause>) -> Result<(), AllocError>

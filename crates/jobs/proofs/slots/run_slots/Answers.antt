@@ -14,47 +14,46 @@ pub loop-log-smaller : goal.loop-log-smaller
 loop-log-smaller g c =
     let l = c.loop-log in
     let ds : List Due = in_order due_before (held l.queue) in
-    let ds₁ : List Due = in_order due_before (held c.begin_slot.new.queue) in
+    let ds₁ : List Due = in_order due_before (held c.run_due.new.queue) in
     let w : World = world g.D.Disk.meaning l.pool l.bench in
-    let w₁ : World = world g.D.Disk.meaning l.pool c.begin_slot.new.bench in
+    let w₁ : World = world g.D.Disk.meaning l.pool c.run_due.new.bench in
     let w₂ : World = world g.D.Disk.meaning c.tick.new.pool c.tick.new.bench in
-    let log₁ : List ℕ = vec_items c.begin_slot.new.log in
-    let cues = c.in_ok-begun.ensures.ran l.pool in
-    let goes = run_goes w w₁ ds ds₁ (vec_items l.log) log₁ c.in_ok-begun.begun.next cues (sym c.in_ok-begun.ensures.ends ∙ c.if-begun.false) in
-    let same : w₁.now ≡ w.now = stays w w₁ ds ds₁ (vec_items l.log) log₁ c.in_ok-begun.begun.next cues in
-    let early : w₁.now < 1000000 = omega (arith, goes.0, c.begin_slot.new.bench.time) in
-    let later : w₂.now ≡ suc w₁.now = passed_later w₁ w₂ log₁ (vec_items c.tick.new.log) l.invariant.1 early c.in_ok-tick.ensures in
+    let log₁ : List ℕ = vec_items c.run_due.new.log in
+    let cues = c.in_ok-next.ensures l.pool in
+    let goes = run_goes w w₁ ds ds₁ (vec_items l.log) log₁ c.in_ok-next.next cues (sym c.is_over.ensures ∙ c.if-is_over.false) in
+    let same : w₁.now ≡ w.now = stays w w₁ ds ds₁ (vec_items l.log) log₁ c.in_ok-next.next cues in
+    let early : w₁.now < 1000000 = omega (arith, goes.0, c.run_due.new.bench.time) in
+    let later : w₂.now ≡ suc w₁.now = passed_later w₁ w₂ log₁ (vec_items c.tick.new.log) l.invariant.0 early c.in_ok-tick.ensures in
     omega (arith, same, later, early)
 
 pub loop-log-preserved : goal.loop-log-preserved
 loop-log-preserved g c =
     let l = c.loop-log in
     let ds : List Due = in_order due_before (held l.queue) in
-    let ds₁ : List Due = in_order due_before (held c.begin_slot.new.queue) in
+    let ds₁ : List Due = in_order due_before (held c.run_due.new.queue) in
     let w : World = world g.D.Disk.meaning l.pool l.bench in
-    let w₁ : World = world g.D.Disk.meaning l.pool c.begin_slot.new.bench in
+    let w₁ : World = world g.D.Disk.meaning l.pool c.run_due.new.bench in
     let w₂ : World = world g.D.Disk.meaning c.tick.new.pool c.tick.new.bench in
-    let log₁ : List ℕ = vec_items c.begin_slot.new.log in
-    let cues = c.in_ok-begun.ensures.ran l.pool in
-    let goes = run_goes w w₁ ds ds₁ (vec_items l.log) log₁ c.in_ok-begun.begun.next cues (sym c.in_ok-begun.ensures.ends ∙ c.if-begun.false) in
-    let early : w₁.now < 1000000 = omega (arith, goes.0, c.begin_slot.new.bench.time) in (
-      c.begin_slot.ensures.sound,
+    let log₁ : List ℕ = vec_items c.run_due.new.log in
+    let cues = c.in_ok-next.ensures l.pool in
+    let goes = run_goes w w₁ ds ds₁ (vec_items l.log) log₁ c.in_ok-next.next cues (sym c.is_over.ensures ∙ c.if-is_over.false) in
+    let early : w₁.now < 1000000 = omega (arith, goes.0, c.run_due.new.bench.time) in (
       omega arith,
       cues.first,
-      slot_more w w₁ ds ds₁ (vec_items l.log) log₁ c.in_ok-begun.begun.next cues _ l.invariant.3 w₂ (vec_items c.tick.new.log) goes.1 l.invariant.1 early c.in_ok-tick.ensures,
+      slot_more w w₁ ds ds₁ (vec_items l.log) log₁ c.in_ok-next.next cues _ l.invariant.2 w₂ (vec_items c.tick.new.log) goes.1 l.invariant.0 early c.in_ok-tick.ensures,
     )
 
 pub returns : goal.returns
 returns g c told =
     let l = c.loop-log in
     let ds : List Due = in_order due_before (held l.queue) in
-    let ds₁ : List Due = in_order due_before (held c.begin_slot.new.queue) in
+    let ds₁ : List Due = in_order due_before (held c.run_due.new.queue) in
     let w : World = world g.D.Disk.meaning l.pool l.bench in
-    let w₁ : World = world g.D.Disk.meaning l.pool c.begin_slot.new.bench in
+    let w₁ : World = world g.D.Disk.meaning l.pool c.run_due.new.bench in
     let w₀ : World = world g.D.Disk.meaning (replicate 2048 0) c.new-bench.result in
     let ds₀ : List Due = in_order due_before (held c.args.queue.now) in
-    let log₁ : List ℕ = vec_items c.begin_slot.new.log in
-    let cues = c.in_ok-begun.ensures.ran l.pool in
+    let log₁ : List ℕ = vec_items c.run_due.new.log in
+    let cues = c.in_ok-next.ensures l.pool in
     let added = c.in_ok-add.ensures ∙ ap (λ (t : List ℕ). log₁ ++ t) (c.last_line.ensures l.pool) in
-    let whole : vec_items c.add.new.log ≡ left_of w₀ ds₀ = run_ends w w₁ ds ds₁ (vec_items l.log) log₁ c.in_ok-begun.begun.next cues (left_of w₀ ds₀) l.invariant.3 (vec_items c.add.new.log) (sym c.in_ok-begun.ensures.ends ∙ c.if-begun.true) added in
+    let whole : vec_items c.add.new.log ≡ left_of w₀ ds₀ = run_ends w w₁ ds ds₁ (vec_items l.log) log₁ c.in_ok-next.next cues (left_of w₀ ds₀) l.invariant.2 (vec_items c.add.new.log) (sym c.is_over.ensures ∙ c.if-is_over.true) added in
     whole ∙ (ap (λ (v : World). left_of v ds₀) (c.new-bench.ensures (replicate 2048 0)) ∙ sym (slots_told told 1000000 (new 0 (g.D.Disk.meaning c.args.disk) (replicate 2048 0)) ds₀))

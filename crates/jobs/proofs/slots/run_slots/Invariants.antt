@@ -1,5 +1,5 @@
 use Rattle.std.proofs.Common.{◌≡◌, ◌-◌, ◌++◌, length, vec_items}
-use Rattle.queue.specs.Held.{held, Sound}
+use Rattle.queue.specs.Held.{held}
 use Rattle.queue.specs.Order.{in_order}
 use Rattle.bench.specs.Model.{world}
 use Rattle.cuelists.specs.Dues.{due_before}
@@ -9,8 +9,7 @@ use Rattle.jobs.proofs.slots.run_slots.Given as goal
 
 abbrev pub invariant-loop-log : goal.invariant-loop-log
 invariant-loop-log g l =
-    Sound due_before l.queue
-    × (length l.pool ≡ 2048)
+    (length l.pool ≡ 2048)
     × (l.next ≡ first_slot (in_order due_before (held l.queue)))
     × (vec_items l.log ++ left_of (world g.D.Disk.meaning l.pool l.bench) (in_order due_before (held l.queue))
     ≡ left_of (world g.D.Disk.meaning l.initial.pool l.initial.bench) (in_order due_before (held l.initial.queue)))

@@ -1,11 +1,11 @@
-use Rattle.std.proofs.Common.{sym, ap}
+use Rattle.std.proofs.Common.{◌≡◌, ◌∙◌, rules}
+use Rattle.std.specs.Option.{option_map}
 use Rattle.queue.specs.Held.{held}
-use Rattle.jobs.specs.Run.{first_slot}
-use Rattle.jobs.proofs.Cues.{none_waits, one_waits}
+use Rattle.cuelists.specs.declared.due.Due.{Due}
+use Rattle.jobs.proofs.Cues.{slot_waits}
 use Rattle.jobs.proofs.slots.slot_of_first.Goals as goal
 
-pub returns-in-Some : goal.returns-in-Some
-returns-in-Some c = sym (ap first_slot (one_waits (held c.args.queue.now) c.in-Some.due (c.in-Some.ensures.answer c.requires)).1)
-
-pub returns-in-None : goal.returns-in-None
-returns-in-None c = sym (ap first_slot (none_waits (held c.args.queue.now) (c.in-None.ensures.answer c.requires)))
+pub returns : goal.returns
+returns c =
+    let slot : c.map.result ≡ option_map (λ (d : Due). d.slot) c.first.result = search rules in
+    slot ∙ slot_waits (held c.args.queue.now) c.first.result c.first.ensures.answer

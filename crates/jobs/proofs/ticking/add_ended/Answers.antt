@@ -12,5 +12,5 @@ returns c = let l = c.loop-head in ended_all c.args.slot l.head c.args.ended.now
 
 pub returns-then-is_none_ended : goal.returns-then-is_none_ended
 returns-then-is_none_ended c =
-    let none = lines_none c.args.slot 0 c.args.ended.now (c.is_none_ended.ensures c.if-is_none_ended.true) in
+    let none = lines_none c.args.slot 0 c.args.ended.now (sym c.is_none_ended.ensures ∙ c.if-is_none_ended.true) in
     sym (ap (λ (ls : List ℕ). vec_items c.args.log.now ++ ls) none ∙ append-nil (vec_items c.args.log.now))
