@@ -8,8 +8,8 @@ use Rattle.std.proofs.lemmas.Bool.{cond-true, cond-false, and_parts, and_from, e
 use Rattle.cues.specs.Words.{Word, words}
 use Rattle.cues.specs.Forms.{Placed, placed}
 use Rattle.cues.specs.Reading.{words_from}
-use Rattle.cues.proofs.RoundTrip.{Unspaced, cut_lacking, words_one, own, lacks_decimal, word_decimal}
-use Rattle.cues.proofs.Words.{digit_range}
+use Rattle.cues.proofs.RoundTrip.{Unspaced, cut_lacking, words_one, lacks_decimal, word_decimal}
+use Rattle.cues.proofs.Words.{own, digit_range}
 use Rattle.refusal.specs.Told.{kind_number, refusal_number, refusal_values, told, answer_number}
 use Rattle.refusal.specs.declared.FaultKind.TheVariants.{ReadFailed, Beyond}
 use Rattle.refusal.specs.declared.Refusal.{Refusal}

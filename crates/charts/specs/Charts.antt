@@ -1,6 +1,6 @@
 -- The chart of a log: its frame, the slots on its axis, the bars of each head's row, and the marks of its lines in
 -- their order.
-use Rattle.std.specs.Prelude.{ℕ, max, List, [], ◌∷◌, ◌++◌, Ok, Err, codes, decimal, Result}
+use Rattle.std.specs.Prelude.{ℕ, max, List, [], ◌∷◌, ◌++◌, Ok, Err, decimal, Result}
 use Rattle.std.specs.List.{range_with_len, flat_map}
 use Rattle.charts.specs.Axis.{ticks_lines}
 use Rattle.charts.specs.Bands.{band_lines}
@@ -32,8 +32,11 @@ abbrev pub chart_text : List Entry → List ℕ
 chart_text es = text_by (last_slot es) es
 
 -- a wrong line is told as that of a cue list: number, line and place
+abbrev pub fault_words : LogFault → List ℕ
+fault_words f = decimal 17 ++ (32 ∷ (decimal f.line ++ (32 ∷ decimal f.place)))
+
 abbrev pub fault_text : LogFault → List ℕ
-fault_text f = codes "17 " ++ (decimal f.line ++ (codes " " ++ (decimal f.place ++ 10 ∷ [])))
+fault_text f = fault_words f ++ 10 ∷ []
 
 abbrev pub outcome_text : Result (List Entry) LogFault → List ℕ
 outcome_text (Ok es) = chart_text es

@@ -3,12 +3,13 @@ ghost use Rattle.std.specs.Prelude.{◌≡◌, ◌≤◌, length};
 ghost use Rattle.cues.specs.Reading.{left, end, words_from, place_after};
 ghost use Rattle.charts.specs.Back.{WrittenLinesReadBack};
 ghost use Rattle.charts.specs.Entries.{begins_done, letter_kind, wanted, entry_from, numbered, after_number, line_entry};
+ghost use Rattle.charts.specs.Lines.{slot_of};
 ghost use Rattle.charts.specs.declared.entry.Kind.TheVariants.{Done as done};
 
 use cues::reading::Words;
 use cues::token::Token;
 
-#[derive(Clone, Copy)]
+#[derive(Clone, Copy, PartialEq, Eq, Debug)]
 pub enum Entry {
     // `S o H R`: an order; the answer is 0 or the refusal's number. The span l to h follows where it is 6.
     Order {
@@ -73,8 +74,28 @@ pub enum Entry {
     },
 }
 
+impl Entry {
+    // The slot of the line; 0 where the job did not run.
+    pub(crate) fn slot(&self) -> u32
+        ensures { result ≡ slot_of self.now }
+    {
+        match self {
+            Entry::Order { slot, .. }
+            | Entry::Take { slot, .. }
+            | Entry::Give { slot, .. }
+            | Entry::Close { slot, .. }
+            | Entry::Read { slot, .. }
+            | Entry::Failed { slot, .. }
+            | Entry::Ended { slot, .. }
+            | Entry::Done { slot, .. } => *slot,
+            Entry::Refused { .. } => 0,
+        }
+    }
+}
+
 // Reads a line of the log, without its end; or answers the place of its first wrong word: the line's length where a
 // word is missing. A line that a job wrote reads as what it tells.
+#[tactic(auto, using(crate::proofs::Back::written_lines_read_back))]
 pub fn read_entry(line: &[u8]) -> Result<Entry, usize>
     ensures value { result ≡ line_entry line.now }
     ensures back { WrittenLinesReadBack }
@@ -83,17 +104,14 @@ pub fn read_entry(line: &[u8]) -> Result<Entry, usize>
         return after_done(line);
     }
     let mut words = Words { line, at: Some(0) };
-    match words.next() {
-        Err(place) => Err(place),
-        Ok(token) => match token {
-            Token::Letter { place, .. } => Err(place),
-            Token::Number { value, .. } => after_first(&mut words, value),
-        },
+    match words.next()? {
+        Token::Number { value, .. } => after_first(&mut words, value),
+        Token::Letter { place, .. } => Err(place),
     }
 }
 
 // Which line it is; how many numbers follow, and what they are.
-#[derive(Clone, Copy)]
+#[derive(Clone, Copy, PartialEq, Eq, Debug)]
 enum Kind {
     Order,
     Take,
@@ -110,13 +128,10 @@ enum Kind {
 fn is_done(line: &[u8]) -> bool
     ensures { result ≡ begins_done line.now }
 {
-    if line.len() < 4 {
-        return false;
-    }
-    if line[0] != b'd' || line[1] != b'o' || line[2] != b'n' || line[3] != b'e' {
-        return false;
-    }
-    line.len() == 4 || line[4] == b' '
+    matches!(
+        line,
+        [b'd', b'o', b'n', b'e'] | [b'd', b'o', b'n', b'e', b' ', ..]
+    )
 }
 
 // The line after the word `done`.
@@ -124,7 +139,7 @@ fn after_done(line: &[u8]) -> Result<Entry, usize>
     requires { 4 ≤ length line.now }
     ensures { result ≡ numbered done 0 (length line.now) (words_from line.now (place_after line.now 4)) }
 {
-    let at = if line.len() > 4 { Some(5) } else { None };
+    let at = (line.len() > 4).then_some(5);
     let mut words = Words { line, at };
     read_numbers(&mut words, Kind::Done, 0)
 }
@@ -134,15 +149,12 @@ fn after_first(words: &mut Words, first: u32) -> Result<Entry, usize>
     ensures { result ≡ after_number first (end words.old) (left words.old) }
 {
     let mut here = *words;
-    match words.next() {
-        Err(place) => Err(place),
-        Ok(token) => match token {
-            Token::Number { .. } => read_numbers(&mut here, Kind::Refused, first),
-            Token::Letter { letter, place, .. } => match kind_of(letter) {
-                Some(kind) => read_numbers(words, kind, first),
-                None => Err(place),
-            },
-        },
+    match words.next()? {
+        Token::Number { .. } => read_numbers(&mut here, Kind::Refused, first),
+        Token::Letter { letter, place, .. } => {
+            let kind = kind_of(letter).ok_or(place)?;
+            read_numbers(words, kind, first)
+        }
     }
 }
 
@@ -169,12 +181,9 @@ fn read_numbers(words: &mut Words, kind: Kind, first: u32) -> Result<Entry, usiz
     let mut n = [0; 5];
     let mut i = 0;
     while i < wanted(kind, &n) {
-        match words.next() {
-            Err(place) => return Err(place),
-            Ok(token) => match token {
-                Token::Number { value, .. } => n[i] = value,
-                Token::Letter { place, .. } => return Err(place),
-            },
+        match words.next()? {
+            Token::Number { value, .. } => n[i] = value,
+            Token::Letter { place, .. } => return Err(place),
         }
         i += 1;
     }

@@ -1,24 +1,5 @@
 // What every chart has: its size, its colours and shapes, the names of its rows, and the legend.
-ghost use Rattle.std.specs.Prelude.{◌≡◌, ◌++◌, string_bytes, OnOk};
-ghost use Rattle.charts.specs.Frame.{head_lines, legend_lines};
-
-use std::alloc::AllocError;
-
-pub(crate) fn add_head(text: &mut String) -> Result<(), AllocError>
-    ensures { OnOk result (string_bytes text.new ≡ string_bytes text.old ++ head_lines) }
-{
-    text.push_str(HEAD)?;
-    Ok(())
-}
-
-pub(crate) fn add_legend(text: &mut String) -> Result<(), AllocError>
-    ensures { OnOk result (string_bytes text.new ≡ string_bytes text.old ++ legend_lines) }
-{
-    text.push_str(LEGEND)?;
-    Ok(())
-}
-
-const HEAD: &str =
+pub(crate) const HEAD: &str =
     "<svg xmlns='http://www.w3.org/2000/svg' width='1160' height='604' font-family='sans-serif' font-size='12'>
 <style>path{fill:none}.r{stroke:#2b6cb0;stroke-width:10}.f{stroke:#d62728;stroke-width:5}.l{stroke:#2ca02c;stroke-width:2}.a{stroke:#ddd}.n{text-anchor:middle;fill:#666}.t{font-size:14}.w{stroke:#bbb}</style>
 <defs>
@@ -37,7 +18,7 @@ const HEAD: &str =
 <text x='12' y='456'>no such head,</text><text x='12' y='470'>or no head</text>
 ";
 
-const LEGEND: &str =
+pub(crate) const LEGEND: &str =
     "<path class='r' d='M100 534h24'/><text x='130' y='538'>read</text><path class='f' d='M190 534h24'/><text x='220' y='538'>failed attempt</text>
 <path class='l' d='M330 534h24'/><text x='360' y='538'>lease, from take to give</text><use href='#o' x='530' y='525'/><text x='542' y='538'>order granted</text>
 <use href='#c' x='650' y='525'/><text x='662' y='538'>head closed</text><use href='#x' x='760' y='525'/><text x='772' y='538'>call refused</text>

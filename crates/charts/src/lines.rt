@@ -1,29 +1,36 @@
 // The mark that a line of the log has by itself: calls, lane ends and the tallies. Reads and failed attempts have bars.
-ghost use Rattle.std.specs.Prelude.{◌≡◌, ◌+◌, ◌^◌, ◌<◌, ◌≤◌, ◌++◌, length, drop, string_bytes, OnOk};
-ghost use Rattle.charts.specs.Lines.{slot_of, ends_lease, lease_end, lease_bar, call_mark, end_mark, mark_of, marks_lines};
+ghost use Rattle.std.specs.Prelude.{◌≡◌, ◌^◌, ◌≤◌, ◌++◌, string_bytes, OnOk};
+ghost use Rattle.charts.specs.Lines.{ends_lease, lease_end, lease_bar, call_mark, end_mark, mark_of, marks_lines};
 
-use crate::bands::{x_of, y_of};
+use crate::axis::Scale;
+use crate::bands::y_of;
 use crate::entry::Entry;
 use crate::mark::{Mark, add};
 use std::alloc::AllocError;
 
-// Adds the mark of each line, where `last` is the last slot of the log.
-pub(crate) fn add_marks(text: &mut String, entries: &[Entry], last: u32) -> Result<(), AllocError>
-    ensures { OnOk result (string_bytes text.new ≡ string_bytes text.old ++ marks_lines last entries.now) }
+// Adds the mark of each line.
+pub(crate) fn add_marks(
+    text: &mut String,
+    entries: &[Entry],
+    scale: Scale,
+) -> Result<(), AllocError>
+    ensures { OnOk result (string_bytes text.new ≡ string_bytes text.old ++ marks_lines scale.last entries.now) }
 {
-    for (i, entry) in entries.iter().enumerate() {
-        if let Some(mark) = mark_of(entry, entries, i + 1, last) {
+    let mut rest = entries;
+    while let Some((entry, after)) = rest.split_first() {
+        if let Some(mark) = mark_of(entry, after, scale) {
             add(text, mark)?;
         }
+        rest = after;
     }
     Ok(())
 }
 
-// The mark of a line, where the lines after it are those from `next` on.
-fn mark_of(entry: &Entry, entries: &[Entry], next: usize, last: u32) -> Option<Mark>
-    ensures { result ≡ mark_of last entry.now (drop next entries.now) }
+// The mark of a line, before the lines `after`.
+fn mark_of(entry: &Entry, after: &[Entry], scale: Scale) -> Option<Mark>
+    ensures { result ≡ mark_of scale.last entry.now after.now }
 {
-    let x = x_of(last, slot_of(entry) as u64);
+    let x = scale.x_of(entry.slot() as u64);
     match entry {
         Entry::Order { head, answer, .. } => {
             let y = y_of(*head);
@@ -45,15 +52,11 @@ fn mark_of(entry: &Entry, entries: &[Entry], next: usize, last: u32) -> Option<M
             if *lease > 15 {
                 return None;
             }
-            let end = x_of(last, lease_end(entries, next, *lease, last));
+            let end = scale.x_of(lease_end(after, *lease, scale));
             Some(lease_bar(x, end, *head, *lease))
         }
-        Entry::Give { answer, .. } => {
-            if *answer == 0 {
-                return None;
-            }
-            Some(Mark::Refusal { x, y: y_of(8) })
-        }
+        Entry::Give { answer: 0, .. } => None,
+        Entry::Give { .. } => Some(Mark::Refusal { x, y: y_of(8) }),
         Entry::Read { .. } | Entry::Failed { .. } => None,
         Entry::Ended { .. } | Entry::Done { .. } | Entry::Refused { .. } => end_mark(entry, x),
     }
@@ -96,9 +99,10 @@ fn call_mark(answer: u32, granted: Mark, x: u64, y: u64) -> Mark
     ensures { result ≡ call_mark answer granted x y }
 {
     if answer == 0 {
-        return granted;
+        granted
+    } else {
+        Mark::Refusal { x, y }
     }
-    Mark::Refusal { x, y }
 }
 
 // A lease from x to `end`, at least one dot wide. Four leases of a head lie one below the other.
@@ -113,42 +117,23 @@ fn lease_bar(x: u64, end: u64, head: u32, lease: u32) -> Mark
 }
 
 // The slot in which a lease ends: where it is given back or, at the latest, taken again, or else after the last.
-fn lease_end(entries: &[Entry], next: usize, lease: u32, last: u32) -> u64
-    ensures value { result ≡ lease_end last lease (drop next entries.now) }
+fn lease_end(after: &[Entry], lease: u32, scale: Scale) -> u64
+    ensures value { result ≡ lease_end scale.last lease after.now }
     ensures bound { result ≤ 2 ^ 32 }
 {
-    let mut i = next;
-    while i < entries.len() {
-        if ends_lease(&entries[i], lease) {
-            return slot_of(&entries[i]) as u64;
-        }
-        i += 1;
+    match after.iter().find(|entry| ends_lease(entry, lease)) {
+        Some(entry) => entry.slot() as u64,
+        None => scale.last as u64 + 1,
     }
-    last as u64 + 1
 }
 
 fn ends_lease(entry: &Entry, shown: u32) -> bool
     ensures { result ≡ ends_lease shown entry.now }
 {
     match entry {
-        Entry::Give { lease, answer, .. } => *answer == 0 && *lease == shown,
-        Entry::Take { lease, answer, .. } => *answer == 0 && *lease == shown,
+        Entry::Give { lease, answer, .. } | Entry::Take { lease, answer, .. } => {
+            *answer == 0 && *lease == shown
+        }
         _ => false,
-    }
-}
-
-pub(crate) fn slot_of(entry: &Entry) -> u32
-    ensures { result ≡ slot_of entry.now }
-{
-    match entry {
-        Entry::Order { slot, .. } => *slot,
-        Entry::Take { slot, .. } => *slot,
-        Entry::Give { slot, .. } => *slot,
-        Entry::Close { slot, .. } => *slot,
-        Entry::Read { slot, .. } => *slot,
-        Entry::Failed { slot, .. } => *slot,
-        Entry::Ended { slot, .. } => *slot,
-        Entry::Done { slot, .. } => *slot,
-        Entry::Refused { .. } => 0,
     }
 }

@@ -5,7 +5,7 @@ ghost use Rattle.charts.specs.Marks.{mark_text, mark_line};
 use std::alloc::AllocError;
 use std::fmt;
 
-#[derive(Clone, Copy)]
+#[derive(Clone, Copy, PartialEq, Eq, Debug)]
 pub enum Mark {
     // Reads of a head, one after another, from x on.
     Reads {
@@ -69,10 +69,7 @@ pub enum Mark {
 pub(crate) fn add(text: &mut String, mark: Mark) -> Result<(), AllocError>
     ensures { OnOk result (string_bytes text.new ≡ string_bytes text.old ++ mark_line mark) }
 {
-    match writeln!(text, "{mark}") {
-        Ok(()) => Ok(()),
-        Err(_) => Err(AllocError),
-    }
+    writeln!(text, "{mark}")
 }
 
 impl fmt::Display for Mark {

@@ -13,10 +13,10 @@ loop-head-preserved c =
     let l = c.loop-head in
     let a = c.args in
     let text = string_bytes l.text in
-    let rows = flat_map (row_lines a.last a.entries.now) in
+    let rows = flat_map (row_lines a.scale.last a.entries.now) in
     let rest = rows (range_with_len (l.head + 1) (8 - (l.head + 1))) in
-    let reads = band_lines a.last Reads l.head a.entries.now in
-    let failures = band_lines a.last Failures l.head a.entries.now in
+    let reads = band_lines a.scale.last Reads l.head a.entries.now in
+    let failures = band_lines a.scale.last Failures l.head a.entries.now in
     let one_less : 8 - l.head ≡ suc (8 - (l.head + 1)) = omega arith in
-    let added = c.in_ok-add_band-2.ensures ∙ ap (λ (bs : List ℕ). bs ++ failures) c.in_ok-add_band.ensures in
+    let added = c.in_ok-add-2.ensures ∙ ap (λ (bs : List ℕ). bs ++ failures) c.in_ok-add.ensures in
     ap (λ (bs : List ℕ). bs ++ rest) added ∙ grouped text reads failures rest ∙ sym (ap (λ (n : ℕ). text ++ rows (range_with_len l.head n)) one_less) ∙ l.invariant

@@ -3,12 +3,12 @@ use Rattle.std.specs.List.{range_with_len}
 use Rattle.charts.specs.Axis.{tick, ticks_by}
 use Rattle.charts.specs.Marks.{mark_line}
 use Rattle.charts.specs.declared.mark.Mark.TheVariants.{Tick}
-use Rattle.charts.proofs.axis.add_ticks.Goals as goal
+use Rattle.charts.proofs.axis.Scale.add_ticks.Goals as goal
 
 pub loop-k-preserved : goal.loop-k-preserved
 loop-k-preserved c =
     let l = c.loop-k in
-    let last = c.args.last in
+    let last = c.args.self.last in
     let step = c.step_of-step.result in
     let count = last / step + 1 in
     let text = string_bytes l.text in
