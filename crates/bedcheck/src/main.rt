@@ -3,13 +3,13 @@
 
 use cuelists::due::Due;
 use cuelists::list::{ListFault, MOST_CALLS, read_list};
-use cues::Call;
 use disk::Disk;
 use disk::survey::{Unread, survey};
 use image::Image;
 use layers::plan::{Entries, Plan};
 use layers::retry::{Retry, Tries};
 use queue::Queue;
+use refusal::Refusal;
 use std::fmt::Write;
 use std::fs;
 use std::io::Read;
@@ -23,12 +23,18 @@ fn main(rt: HostRuntime) -> anyhow::Result<()> {
 
 fn run(rt: &HostRuntime) -> anyhow::Result<()> {
     let Ok(bytes) = fs::read(rt, "bed.img") else {
-        return Ok(println!(rt; "15 0 0")?);
+        return bad_image(rt);
     };
     match Image::new(bytes.as_slice()) {
         Ok(image) => check(rt, image),
-        Err(refusal) => Ok(println!(rt; "{} 0 0", refusal.number())?),
+        Err(_) => bad_image(rt),
     }
+}
+
+// A bad image, or none, has no line and no place.
+fn bad_image(rt: &HostRuntime) -> anyhow::Result<()> {
+    println!(rt; "{} 0 0", Refusal::BadImage.number())?;
+    Ok(())
 }
 
 fn check(rt: &HostRuntime, image: Image) -> anyhow::Result<()> {
@@ -36,7 +42,7 @@ fn check(rt: &HostRuntime, image: Image) -> anyhow::Result<()> {
     rt.stdin().read_to_end(&mut input)?;
     let mut entries = Entries::new();
     if let Err(fault) = read_plan(input.as_slice(), &mut entries) {
-        return Ok(println!(rt; "{} {} {}", fault.number(), fault.line, fault.place)?);
+        return Ok(println!(rt; "{fault}")?);
     }
     let Ok(tries) = Tries::new(TRIES) else {
         return Ok(());
@@ -48,12 +54,7 @@ fn check(rt: &HostRuntime, image: Image) -> anyhow::Result<()> {
 
 // The plan of a cue list. Its calls are read too, and wait for no one.
 fn read_plan(input: &[u8], entries: &mut Entries) -> Result<(), ListFault> {
-    let none = Due {
-        slot: 0,
-        line: 0,
-        call: Call::Close { head: 0 },
-    };
-    let mut memory = [none; MOST_CALLS];
+    let mut memory = [Due::FILLER; MOST_CALLS];
     let mut queue = Queue::new(&mut memory);
     read_list(input, entries, &mut queue)
 }

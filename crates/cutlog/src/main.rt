@@ -14,14 +14,11 @@ fn cut(rt: &HostRuntime) -> anyhow::Result<()> {
     let image = fs::read(rt, "bed.img").ok();
     let mut cues = Vec::new(rt.alloc());
     rt.stdin().read_to_end(&mut cues)?;
-    let log = run(bytes_in(&image), cues.as_slice(), rt.alloc())?;
+    let log = run(
+        image.as_ref().map(|bytes| bytes.as_slice()),
+        cues.as_slice(),
+        rt.alloc(),
+    )?;
     rt.stdout().write_all(log.as_slice())?;
     Ok(())
-}
-
-fn bytes_in(image: &Option<Vec<u8>>) -> Option<&[u8]> {
-    match image {
-        Some(bytes) => Some(bytes.as_slice()),
-        None => None,
-    }
 }
