@@ -1,5 +1,5 @@
 -- The rule replayed over what is left of eight lanes.
-use Rattle.std.specs.Prelude.{◌≡◌, ℕ, ◌+◌, ◌*◌, ◌/◌, ◌%◌, ◌<◌, ◌≤◌, Bool, true, List, map, length, get_or, Option, MatchOption, slice_index, slice_index_or, slice_set}
+use Rattle.std.specs.Prelude.{◌≡◌, ℕ, ◌+◌, ◌*◌, ◌/◌, ◌%◌, ◌<◌, ◌≤◌, ◌-◌, Some, None, List, map, length, get_or, Option, MatchOption, slice_index, slice_index_or, slice_set}
 use Rattle.std.specs.List.{AllByRecursion}
 use Rattle.schedule.specs.Choice.{Choice}
 use Rattle.schedule.specs.Rests.{OverAt, deadline_of, ready, due, served, done}
@@ -116,11 +116,19 @@ pub record Leads (longest : ℕ) (lanes : List Rest) : Type 0 where
   pub some : 1 ≤ longest
   pub most : AllByRecursion (λ w. w.lead ≤ longest) lanes
 
+-- where there is a lead, it is the longest of lanes that have all grown
+abbrev pub GrownBy : List Rest → Option ℕ → Type 0
+GrownBy lanes lead = MatchOption lead (Unit {0}) (λ longest. Leads longest lanes × AllByRecursion Grown lanes)
+
+-- a slot before which no such lane is released, where the earliest deadline is d
+abbrev pub quiet_by : Option ℕ → ℕ → ℕ
+quiet_by None d = 0
+quiet_by (Some longest) d = d - longest
+
 -- a turn of the replay, with what it knows of the lanes' leads
-pub record Running (slot : ℕ) (work : List Rest) (longest t : ℕ) (r : Replay) (g : Bool) : Type 0 where
+pub record Running (slot : ℕ) (work : List Rest) (t : ℕ) (r : Replay) (lead : Option ℕ) : Type 0 where
   pub replayed : Replayed slot work t r
-  pub leads : Leads longest r.lanes
-  pub grown : g ≡ true → AllByRecursion Grown r.lanes
+  pub grown : GrownBy r.lanes lead
 
 -- the least end of an overfull span
 abbrev pub FirstEnd : ℕ → List Rest → Option ℕ → Type 0

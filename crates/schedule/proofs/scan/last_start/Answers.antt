@@ -1,4 +1,4 @@
-use Rattle.std.proofs.Common.{rules}
+use Rattle.std.proofs.Common.{rules, arith}
 use Rattle.schedule.specs.Rests.{done}
 use Rattle.schedule.specs.Scan.{CutAt}
 use Rattle.schedule.proofs.Mapped.{mapped}
@@ -13,7 +13,7 @@ pub unwrap-top-requires : goal.unwrap-top-requires
 unwrap-top-requires c = scan_goes _ _ _ _ _ c.loop-counted.invariant c.requires.1 _ c.latest.ensures
 
 pub returns-then-counted-h : goal.returns-then-counted-h
-returns-then-counted-h c = scan_ends _ _ _ _ _ c.loop-counted.invariant _ _ c.unwrap-top.ensures c.latest.ensures c.index-lanes-top.result _ c.last_owed-counted.ensures c.if-counted-h.true
+returns-then-counted-h c = scan_ends _ _ _ _ _ c.loop-counted.invariant _ _ c.unwrap-top.ensures c.latest.ensures c.index-lanes-top.result _ c.last_owed-counted.ensures (omega arith)
 
 pub loop-counted-preserved : goal.loop-counted-preserved
-loop-counted-preserved c = scan_again _ _ _ _ _ c.loop-counted.invariant _ _ c.unwrap-top.ensures c.latest.ensures c.index-lanes-top.result _ c.last_owed-counted.ensures c.if-counted-h.false _ c.shorten.ensures
+loop-counted-preserved c = scan_again _ _ _ _ _ c.loop-counted.invariant _ _ c.unwrap-top.ensures c.latest.ensures c.index-lanes-top.result _ c.last_owed-counted.ensures (omega arith) _ c.shorten.ensures
