@@ -104,24 +104,8 @@ pub fn read_entry(line: &[u8]) -> Result<Entry, usize>
         return after_done(line);
     }
     let mut words = Words { line, at: Some(0) };
-    match words.next()? {
-        Token::Number { value, .. } => after_first(&mut words, value),
-        Token::Letter { place, .. } => Err(place),
-    }
-}
-
-// Which line it is; how many numbers follow, and what they are.
-#[derive(Clone, Copy, PartialEq, Eq, Debug)]
-enum Kind {
-    Order,
-    Take,
-    Give,
-    Close,
-    Read,
-    Failed,
-    Ended,
-    Done,
-    Refused,
+    let first = words.number()?;
+    after_first(&mut words, first)
 }
 
 // Whether the first word is `done`.
@@ -152,25 +136,9 @@ fn after_first(words: &mut Words, first: u32) -> Result<Entry, usize>
     match words.next()? {
         Token::Number { .. } => read_numbers(&mut here, Kind::Refused, first),
         Token::Letter { letter, place, .. } => {
-            let kind = kind_of(letter).ok_or(place)?;
+            let kind = Kind::of(letter).ok_or(place)?;
             read_numbers(words, kind, first)
         }
-    }
-}
-
-// The kind of line that a letter stands for.
-fn kind_of(letter: char) -> Option<Kind>
-    ensures { result ≡ letter_kind letter }
-{
-    match letter {
-        'o' => Some(Kind::Order),
-        't' => Some(Kind::Take),
-        'g' => Some(Kind::Give),
-        'c' => Some(Kind::Close),
-        'r' => Some(Kind::Read),
-        'f' => Some(Kind::Failed),
-        'e' => Some(Kind::Ended),
-        _ => None,
     }
 }
 
@@ -179,98 +147,120 @@ fn read_numbers(words: &mut Words, kind: Kind, first: u32) -> Result<Entry, usiz
     ensures { result ≡ numbered kind first (end words.old) (left words.old) }
 {
     let mut n = [0; 5];
+    // How many numbers there are is known only once they are read, so no `for` counts them.
     let mut i = 0;
-    while i < wanted(kind, &n) {
-        match words.next()? {
-            Token::Number { value, .. } => n[i] = value,
-            Token::Letter { place, .. } => return Err(place),
-        }
+    while i < kind.wanted(&n) {
+        n[i] = words.number()?;
         i += 1;
     }
     match words.at {
-        None => Ok(entry_from(kind, first, &n)),
+        None => Ok(kind.entry(first, &n)),
         Some(place) => Err(place),
     }
 }
 
-// How many numbers a line has, those that are not yet read being 0.
-fn wanted(kind: Kind, n: &[u32; 5]) -> usize
-    ensures value { result ≡ wanted kind n.now }
-    ensures few { result ≤ 5 }
-{
-    match kind {
-        Kind::Order => {
-            if n[1] == 6 {
-                return 4;
-            }
-            2
-        }
-        Kind::Take => {
-            if n[3] == 0 {
-                return 5;
-            }
-            4
-        }
-        Kind::Give | Kind::Failed | Kind::Done => 3,
-        Kind::Close | Kind::Read | Kind::Ended | Kind::Refused => 2,
-    }
+// Which line it is; how many numbers follow, and what they are. One reader serves all: a number that was read may decide
+// how many follow, which a match with a reader for each kind would tell nine times.
+#[derive(Clone, Copy, PartialEq, Eq, Debug)]
+enum Kind {
+    Order,
+    Take,
+    Give,
+    Close,
+    Read,
+    Failed,
+    Ended,
+    Done,
+    Refused,
 }
 
-fn entry_from(kind: Kind, slot: u32, n: &[u32; 5]) -> Entry
-    ensures { result ≡ entry_from kind slot n.now }
-{
-    match kind {
-        Kind::Order => Entry::Order {
-            slot,
-            head: n[0],
-            answer: n[1],
-            l: n[2],
-            h: n[3],
-        },
-        Kind::Take => Entry::Take {
-            slot,
-            head: n[0],
-            block: n[1],
-            party: n[2],
-            answer: n[3],
-            lease: n[4],
-        },
-        Kind::Give => Entry::Give {
-            slot,
-            party: n[0],
-            lease: n[1],
-            answer: n[2],
-        },
-        Kind::Close => Entry::Close {
-            slot,
-            head: n[0],
-            answer: n[1],
-        },
-        Kind::Read => Entry::Read {
-            slot,
-            head: n[0],
-            block: n[1],
-        },
-        Kind::Failed => Entry::Failed {
-            slot,
-            head: n[0],
-            block: n[1],
-            attempt: n[2],
-        },
-        Kind::Ended => Entry::Ended {
-            slot,
-            head: n[0],
-            cause: n[1],
-        },
-        Kind::Done => Entry::Done {
-            slot: n[0],
-            attempts: n[1],
-            failed: n[2],
-        },
-        Kind::Refused => Entry::Refused {
-            number: slot,
-            line: n[0],
-            place: n[1],
-        },
+impl Kind {
+    // The kind of line that a letter stands for.
+    fn of(letter: char) -> Option<Kind>
+        ensures { result ≡ letter_kind letter }
+    {
+        match letter {
+            'o' => Some(Kind::Order),
+            't' => Some(Kind::Take),
+            'g' => Some(Kind::Give),
+            'c' => Some(Kind::Close),
+            'r' => Some(Kind::Read),
+            'f' => Some(Kind::Failed),
+            'e' => Some(Kind::Ended),
+            _ => None,
+        }
+    }
+
+    // How many numbers a line has, those that are not yet read being 0.
+    fn wanted(self, n: &[u32; 5]) -> usize
+        ensures value { result ≡ wanted self n.now }
+        ensures few { result ≤ 5 }
+    {
+        match self {
+            Kind::Take if n[3] == 0 => 5,
+            Kind::Order if n[1] == 6 => 4,
+            Kind::Take => 4,
+            Kind::Give | Kind::Failed | Kind::Done => 3,
+            Kind::Order | Kind::Close | Kind::Read | Kind::Ended | Kind::Refused => 2,
+        }
+    }
+
+    fn entry(self, slot: u32, n: &[u32; 5]) -> Entry
+        ensures { result ≡ entry_from self slot n.now }
+    {
+        match self {
+            Kind::Order => Entry::Order {
+                slot,
+                head: n[0],
+                answer: n[1],
+                l: n[2],
+                h: n[3],
+            },
+            Kind::Take => Entry::Take {
+                slot,
+                head: n[0],
+                block: n[1],
+                party: n[2],
+                answer: n[3],
+                lease: n[4],
+            },
+            Kind::Give => Entry::Give {
+                slot,
+                party: n[0],
+                lease: n[1],
+                answer: n[2],
+            },
+            Kind::Close => Entry::Close {
+                slot,
+                head: n[0],
+                answer: n[1],
+            },
+            Kind::Read => Entry::Read {
+                slot,
+                head: n[0],
+                block: n[1],
+            },
+            Kind::Failed => Entry::Failed {
+                slot,
+                head: n[0],
+                block: n[1],
+                attempt: n[2],
+            },
+            Kind::Ended => Entry::Ended {
+                slot,
+                head: n[0],
+                cause: n[1],
+            },
+            Kind::Done => Entry::Done {
+                slot: n[0],
+                attempts: n[1],
+                failed: n[2],
+            },
+            Kind::Refused => Entry::Refused {
+                number: slot,
+                line: n[0],
+                place: n[1],
+            },
+        }
     }
 }

@@ -2,11 +2,11 @@
 use Rattle.std.proofs.Common.{◌≡◌, ℕ, suc, ◌+◌, ◌-◌, ◌<◌, ◌≤◌, Bool, List, [], ◌∷◌, ◌++◌, length, take, drop, set, Some, None, Ok, Err, Option, Result, sym, refl, ap, ◌∙◌, append_assoc, append-nil, arith, length-set, take_all}
 use Rattle.std.proofs.lemmas.List.{take_more_set}
 use Rattle.std.proofs.lemmas.Bool.{cond-true, le-leb}
-use Rattle.cues.specs.Words.{Word, number, letter}
+use Rattle.cues.specs.Words.{Word, number, letter, neither, word_of}
 use Rattle.cues.specs.declared.Cue.{Cue}
 use Rattle.cues.specs.declared.reading.Words.{Words}
 use Rattle.cues.specs.Forms.{Placed, placed, numbers, then_number, made_cue, letter_form, call_form, after_slot, cue_form, form}
-use Rattle.cues.specs.Reading.{words_from, left, end, Next}
+use Rattle.cues.specs.Reading.{words_from, left, end, Next, NextNumber, IsNoNumber}
 use Rattle.cues.specs.Tokens.{token_place, token_says}
 use Rattle.cues.specs.declared.token.Token.{Token}
 use Rattle.cues.proofs.Cuts.{front_first}
@@ -25,34 +25,32 @@ with_front_more ns n at (Ok ms) = ap (λ (l : List ℕ). Ok l) (sym (append_asso
 with_front_more ns n at (Err p) = refl
 
 -- at a number, one more is read; at another word, the place of the fault is
-numbers_number : (ws : List Placed) (end k : ℕ) (others : List Placed) (token : Token) (n : ℕ) → Next ws end (Ok token) others → token_says token ≡ number n → (ns : List ℕ) → with_front ns (numbers (suc k) end ws) ≡ with_front (ns ++ n ∷ []) (numbers k end others)
-numbers_number [] end k others token n h s ns = absurd h
-numbers_number (w ∷ ws) end k others token n h s ns =
-    ap (λ (x : Word). with_front ns (then_number x w.place (numbers k end ws))) (h.0.says ∙ s) ∙ with_front_more ns n w.place (numbers k end ws)
+numbers_number : (ws : List Placed) (end k : ℕ) (others : List Placed) (n : ℕ) → NextNumber ws end (Ok n) others → (ns : List ℕ) → with_front ns (numbers (suc k) end ws) ≡ with_front (ns ++ n ∷ []) (numbers k end others)
+numbers_number [] end k others n h ns = absurd h
+numbers_number (w ∷ ws) end k others n h ns =
+    ap (λ (x : Word). with_front ns (then_number x w.place (numbers k end ws))) h.0 ∙ with_front_more ns n w.place (numbers k end ws)
     ∙ ap (λ (l : List Placed). with_front (ns ++ n ∷ []) (numbers k end l)) (sym h.1)
 
-numbers_letter : (ws : List Placed) (end k : ℕ) (others : List Placed) (token : Token) (c : ℕ) → Next ws end (Ok token) others → token_says token ≡ letter c → numbers (suc k) end ws ≡ Err (token_place token)
-numbers_letter [] end k others token c h s = absurd h
-numbers_letter (w ∷ ws) end k others token c h s = ap (λ (x : Word). then_number x w.place (numbers k end ws)) (h.0.says ∙ s) ∙ ap (λ (p : ℕ). Err p) (sym h.0.place)
-
-numbers_err : (ws : List Placed) (end k : ℕ) (others : List Placed) (place : ℕ) → Next ws end (Err place) others → numbers (suc k) end ws ≡ Err place
+numbers_err : (ws : List Placed) (end k : ℕ) (others : List Placed) (place : ℕ) → NextNumber ws end (Err place) others → numbers (suc k) end ws ≡ Err place
 numbers_err [] end k others place h = ap (λ (p : ℕ). Err p) (sym h)
-numbers_err (w ∷ ws) end k others place h = ap (λ (x : Word). then_number x w.place (numbers k end ws)) h.1 ∙ ap (λ (p : ℕ). Err p) (sym h.0)
+numbers_err (w ∷ ws) end k others place h = by (word_of w.bytes) h.1 ∙ ap (λ (p : ℕ). Err p) (sym h.0)
+  where
+    by : (x : Word) → IsNoNumber x → then_number x w.place (numbers k end ws) ≡ Err w.place
+    by (number n) h = absurd h
+    by (letter c) h = refl
+    by neither h = refl
 
 -- a turn of the loop that reads numbers over xs, with F what all of them give
 module _ (F : Result (List ℕ) ℕ) (xs : List ℕ) (i E e : ℕ) (ws others : List Placed) (same : E ≡ e) (h : i < length xs) (so_far : F ≡ with_front (take i xs) (numbers (length xs - i) E ws)) where
   at_one : F ≡ with_front (take i xs) (numbers (suc (length xs - (i + 1))) e ws)
   at_one = let k : length xs - i ≡ suc (length xs - (i + 1)) = omega arith in so_far ∙ (λ j. with_front (take i xs) (numbers (k j) (same j) ws))
 
-  pub turn_number : (token : Token) (n : ℕ) → Next ws e (Ok token) others → token_says token ≡ number n → F ≡ with_front (take (i + 1) (set xs i n)) (numbers (length (set xs i n) - (i + 1)) E others)
-  turn_number token n t s =
-      at_one ∙ numbers_number ws e (length xs - (i + 1)) others token n t s (take i xs)
+  pub turn_number : (n : ℕ) → NextNumber ws e (Ok n) others → F ≡ with_front (take (i + 1) (set xs i n)) (numbers (length (set xs i n) - (i + 1)) E others)
+  turn_number n t =
+      at_one ∙ numbers_number ws e (length xs - (i + 1)) others n t (take i xs)
       ∙ sym (λ j. with_front (take_more_set xs i n h j) (numbers (length-set xs i n j - (i + 1)) (same j) others))
 
-  pub turn_letter : (token : Token) (c : ℕ) → Next ws e (Ok token) others → token_says token ≡ letter c → F ≡ Err (token_place token)
-  turn_letter token c t s = at_one ∙ ap (with_front (take i xs)) (numbers_letter ws e (length xs - (i + 1)) others token c t s)
-
-  pub turn_err : (place : ℕ) → Next ws e (Err place) others → F ≡ Err place
+  pub turn_err : (place : ℕ) → NextNumber ws e (Err place) others → F ≡ Err place
   turn_err place n = at_one ∙ ap (with_front (take i xs)) (numbers_err ws e (length xs - (i + 1)) others place n)
 
 pub numbers_none : (line : List ℕ) (at : Option ℕ) (end place : ℕ) → at ≡ Some place → numbers 0 end (words_from line at) ≡ Err place

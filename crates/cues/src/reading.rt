@@ -1,7 +1,7 @@
 // How a line is read: word by word, each as its form asks.
 ghost use Rattle.std.specs.Prelude.{◌≡◌, Ok, Err};
 ghost use Rattle.cues.specs.Forms.{numbers, then_number, after_slot, line_cue};
-ghost use Rattle.cues.specs.Reading.{left, end, Next};
+ghost use Rattle.cues.specs.Reading.{left, end, Next, NextNumber};
 
 use crate::token::{Token, token_at};
 use crate::{Call, Cue};
@@ -81,16 +81,24 @@ impl<'a> Words<'a> {
         Ok(Cue::At { slot, call })
     }
 
+    // The next word, which is a number; or the place of the fault.
+    pub fn number(&mut self) -> Result<u32, usize>
+        ensures number { NextNumber (left self.old) (end self.old) result (left self.new) }
+        ensures line { self.new.line ≡ self.old.line }
+    {
+        match self.next()? {
+            Token::Number { value, .. } => Ok(value),
+            Token::Letter { place, .. } => Err(place),
+        }
+    }
+
     // The numbers that follow, after which the line ends; or the place of the fault.
     fn numbers<const N: usize>(&mut self) -> Result<[u32; N], usize>
         ensures { result ≡ numbers N (end self.old) (left self.old) }
     {
         let mut numbers = [0; N];
         for number in numbers.iter_mut() {
-            match self.next()? {
-                Token::Number { value, .. } => *number = value,
-                Token::Letter { place, .. } => return Err(place),
-            }
+            *number = self.number()?;
         }
         match self.at {
             None => Ok(numbers),

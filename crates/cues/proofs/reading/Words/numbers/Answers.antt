@@ -1,34 +1,25 @@
-use Rattle.std.proofs.Common.{ℕ, length, Err, sym, ap, ◌∙◌, arith, length-set}
+use Rattle.std.proofs.Common.{ℕ, length, sym, ap, ◌∙◌, arith, length-set}
 use Rattle.std.proofs.lemmas.Result.{err_from_is_err_and}
 use Rattle.cues.specs.Forms.{numbers}
 use Rattle.cues.specs.Reading.{left, end}
-use Rattle.cues.specs.Tokens.{token_says, token_place}
-use Rattle.cues.specs.declared.token.Token.{Token}
-use Rattle.cues.proofs.Forms.{turn_number, turn_letter, turn_err, end_none, end_some}
+use Rattle.cues.proofs.Forms.{turn_number, turn_err, end_none, end_some}
 use Rattle.cues.proofs.reading.Words.numbers.Goals as goal
 
 pub loop-number-preserved : goal.loop-number-preserved
 loop-number-preserved g c =
     let l = c.loop-number in
-    let told = c.in_ok-value.ensures in
-    let size = length-set l.number-items l.number-index c.in-Number.value in
-    let turn = turn_number _ l.number-items l.number-index _ _ _ _ (sym (ap (λ r. length r.now) l.invariant.0)) (omega arith) l.invariant.2 c.in_ok-value.field-0 c.in-Number.value told.next (ap token_says c.in-Number.is) in
+    let told = c.in_ok-number.ensures in
+    let n = c.in_ok-number.field-0 in
+    let size = length-set l.number-items l.number-index n in
+    let turn = turn_number _ l.number-items l.number-index _ _ _ _ (sym (ap (λ r. length r.now) l.invariant.0)) (omega arith) l.invariant.2 n told.number in
     (told.line ∙ l.invariant.0, size ∙ l.invariant.1, ap (λ (k : ℕ). numbers k (end c.args.self.now) (left c.args.self.now)) size ∙ turn)
 
-pub returns-in_err-value : goal.returns-in_err-value
-returns-in_err-value g c =
+pub returns-in_err-number : goal.returns-in_err-number
+returns-in_err-number g c =
     let l = c.loop-number in
-    let told = c.in_err-value.ensures in
     let p = err_from_is_err_and c.from_residual.result c.from_residual.ensures.1 in
-    let turn = turn_err _ l.number-items l.number-index _ _ _ _ (sym (ap (λ r. length r.now) l.invariant.0)) (omega arith) l.invariant.2 c.in_err-value.field-0.0 told.next in
+    let turn = turn_err _ l.number-items l.number-index _ _ _ _ (sym (ap (λ r. length r.now) l.invariant.0)) (omega arith) l.invariant.2 c.in_err-number.field-0.0 c.in_err-number.ensures.number in
     rw (p.1, p.2) (sym (ap (λ (k : ℕ). numbers k (end c.args.self.now) (left c.args.self.now)) (sym l.invariant.1) ∙ turn))
-
-pub returns-in-Letter : goal.returns-in-Letter
-returns-in-Letter g c =
-    let l = c.loop-number in
-    let told = c.in_ok-value.ensures in
-    let turn = turn_letter _ l.number-items l.number-index _ _ _ _ (sym (ap (λ r. length r.now) l.invariant.0)) (omega arith) l.invariant.2 c.in_ok-value.field-0 _ told.next (ap token_says c.in-Letter.is) in
-    sym (ap (λ (k : ℕ). numbers k (end c.args.self.now) (left c.args.self.now)) (sym l.invariant.1) ∙ turn ∙ ap (λ (t : Token). Err (token_place t)) c.in-Letter.is)
 
 pub returns-in-None : goal.returns-in-None
 returns-in-None g c =
