@@ -1,9 +1,9 @@
 -- What a slot does to a bench.
-use Rattle.std.proofs.Common.{◌≡◌, ℕ, suc, ◌+◌, ◌-◌, ◌*◌, ◌%◌, ◌<◌, ◌≤◌, Bool, true, false, cond, not, ◌&&◌, ◌||◌, eqb, ltb, leb, List, [], ◌∷◌, ◌++◌, map, length, get_or, take, drop, set, Some, None, Ok, Err, Option, Result, sym, refl, ap, ◌∙◌, subst, inl, inr, add-zero, add-one, arith, MatchOption, MatchResult}
+use Rattle.std.proofs.Common.{◌≡◌, ℕ, zero, suc, ◌+◌, ◌-◌, ◌*◌, ◌%◌, ◌<◌, ◌≤◌, Bool, true, false, cond, not, ◌&&◌, ◌||◌, eqb, ltb, leb, List, [], ◌∷◌, ◌++◌, map, length, get_or, take, drop, set, Some, None, Ok, Err, Option, Result, sym, refl, ap, ◌∙◌, subst, inl, inr, add-zero, add-one, arith, MatchOption, MatchResult}
 use Rattle.std.proofs.ByRecursion.{All-weaker}
 use Rattle.std.proofs.lemmas.List.{append_assoc, append-nil, length-map, length-take, length-drop, take_all, drop_all, drop_more, drop-drop, take-append-drop, map_more, get_or_at, set_at}
 use native.Mathlib.Nat.{mul-mod_left}
-use Rattle.std.proofs.lemmas.Bool.{and_parts, both_ways, cases_Bool, cond_both, ltb-true}
+use Rattle.std.proofs.lemmas.Bool.{or_parts, and_parts, both_ways, cases_Bool, cond_both, ltb-true}
 use Rattle.std.proofs.lemmas.Bool.Decides.{nat_tests}
 use Rattle.refusal.specs.Told.{refusal_number, answer_number}
 use Rattle.refusal.specs.declared.Fault.{Fault}
@@ -24,10 +24,10 @@ use Rattle.history.specs.declared.Ticked.{Ticked}
 use Rattle.history.specs.declared.Ticked.TheVariants.{Idle, Read, Failed}
 use Rattle.schedule.specs.declared.Timing.{Timing}
 use Rattle.history.specs.Bench.{World, any, is_live, lane_in, lane_at, buffer_of, written}
-use Rattle.history.specs.Calls.{ticked, happens, on_live, moved, ended, aged, all_aged, due, choice, next_deadline, next_block, holds_up, passed, served, tick_checks, tick, Answer, attempted, read_done, read_failed, how_ended, ends}
+use Rattle.history.specs.Calls.{ticked, happens, on_live, moved, ended, aged, all_aged, due, choice, next_deadline, next_block, holds_up, passed, served, tick_checks, tick, Answer, attempted, read_done, read_failed, how_ended, ends, refuse}
 use Rattle.history.specs.Requests.{Requested}
 use Rattle.history.proofs.Checks.{passes}
-use Rattle.history.proofs.Choosing.{deadline_up, chosen, Chosen, Idle as NoneDue}
+use Rattle.history.proofs.Choosing.{deadline_up, choice_none, chosen, Chosen, Idle as NoneDue}
 use Rattle.history.proofs.Requests.{requested_first, requested_nothing}
 use Rattle.bench.specs.Quiet.{later, all_later, settled}
 use Rattle.bench.specs.Sound.{every, lane_ok, live_ok}
@@ -87,6 +87,17 @@ pub chosen_first : (t : ℕ) (ls : List (Option Lane)) (n : ℕ) (xs : List Read
 chosen_first t ls n xs None le q f = sym (requested_nothing deadline_of head_of t ls n le (subst (λ ys. Requested deadline_of head_of t ls n ys) f q))
 chosen_first t ls n xs (Some x) le q f = sym (requested_first deadline_of head_of t ls n xs x le q f.0 (All-weaker _ _ (λ y h. soonest x y h) xs f.1))
 
+-- where no lane is due nothing is chosen
+pub none_due : (t : ℕ) (ls : List (Option Lane)) → any (due t) ls ≡ false → choice t ls ≡ None
+none_due t ls e = choice_none t ls (at ls e)
+  where
+    at : (ls : List (Option Lane)) → any (due t) ls ≡ false → (g : ℕ) → due t (lane_at ls g) ≡ false
+    at [] e g = refl
+    at (None ∷ ls) e zero = refl
+    at (None ∷ ls) e (suc g) = at ls e g
+    at (Some l ∷ ls) e zero = (or_parts (due t l) _ e).0
+    at (Some l ∷ ls) e (suc g) = at ls (or_parts (due t l) _ e).1 g
+
 -- what is chosen stands on a head and is due
 pub chosen_due : (t : ℕ) (ls : List (Option Lane)) (q : ReadRequest) → chosen_by (Some q) ≡ choice t ls → (q.head < length ls) × (due t (lane_at ls q.head) ≡ true)
 chosen_due t ls q e = let k = subst (λ o. MatchOption o (NoneDue t ls) (Chosen t ls)) (sym e) (chosen t ls) in (k.place, k.is_due)
@@ -104,6 +115,9 @@ due_live t l e = (and_parts (is_live l.stage) _ e).0
 
 due_unread : (t : ℕ) (l : Lane) → due t l ≡ true → l.next < l.order.timing.count
 due_unread t l e = ltb-true l.next l.order.timing.count (and_parts (ltb l.next l.order.timing.count) _ (and_parts (is_live l.stage) _ e).1).0
+
+pub due_small : (t : ℕ) (o : Option Lane) (l : Lane) → o ≡ Some l → lane_ok (lane_in o) ≡ true → due t l ≡ true → next_deadline l ≤ 1000000
+due_small t o l is ok d = deadline_small l (live_kept l (subst (λ x. lane_ok (lane_in x) ≡ true) is ok) (due_live t l d)) (omega (arith, due_unread t l d))
 
 due_found : (t : ℕ) (ls : List (Option Lane)) (h : ℕ) (l : Lane) → get_or ls h None ≡ Some l → due t (lane_at ls h) ≡ true → due t l ≡ true
 due_found t ls h l is e = subst (λ o. due t (lane_in o) ≡ true) is e
@@ -222,6 +236,17 @@ attempted_every t ls h l m pool r m' l' pool' ok is e a =
     every_set_some lane_ok ls h l' ok (attempted_ok m l h pool r m' l' pool' (due_live t l (due_found t ls h l is e)) d.0 d.1 a)
 
 -- TICKS
+
+pub tick_wrong : (w : World) (f : Fault) → (length w.pool ≡ 2048 → ⊥) → tick w f ≡ (w, refuse WrongSize)
+unfolding tick
+tick_wrong w f ne = let wrong : not (eqb (length w.pool) 2048) ≡ true = grind (arith, nat_tests) in rw wrong refl
+
+pub tick_last : (w : World) (f : Fault) → length w.pool ≡ 2048 → w.now ≡ 1000000 → tick w f ≡ (w, refuse LastSlot)
+unfolding tick
+tick_last w f len last =
+    let wrong : not (eqb (length w.pool) 2048) ≡ false = grind (arith, nat_tests) in
+    let late : eqb w.now 1000000 ≡ true = grind (arith, nat_tests) in
+    rw (wrong, late) refl
 
 pub tick_served : (w : World) (f : Fault) → length w.pool ≡ 2048 → (w.now ≡ 1000000 → ⊥) → tick w f ≡ served w f (choice w.now w.lanes)
 unfolding tick

@@ -96,10 +96,10 @@ impl<D: Disk> Bench<D> {
 fn is_there(slot: u32, lane: &Lane, block: u32) -> bool
     ensures { result ≡ there slot lane.now block }
 {
-    if let Stage::Live = lane.stage {
-        return block < lane.next && (slot as u64) < lane.order.timing.deadline(block + 1);
-    }
-    false
+    let Stage::Live = lane.stage else {
+        return false;
+    };
+    block < lane.next && (slot as u64) < lane.order.timing.deadline(block + 1)
 }
 
 // The lowest lease number that is free.

@@ -28,9 +28,9 @@ impl<D: Disk> Bench<D> {
         ensures ended { IfOk result (λ t. t.ended ≡ ends self.entry.now.lanes self.exit.now.lanes) }
         ensures origin { TickToldFrom (D.Disk.faults self.entry.now.disk) self.entry.now.lanes result }
     {
-        if pool.len() != 2048 {
+        let Some(pool) = pool.as_mut_array::<2048>() else {
             return Err(Refusal::WrongSize);
-        }
+        };
         if self.now == 1_000_000 {
             return Err(Refusal::LastSlot);
         }
@@ -48,14 +48,13 @@ impl<D: Disk> Bench<D> {
     }
 
     // A slot in which something may happen.
-    fn pass(&mut self, pool: &mut [u8]) -> Ticked
-        requires { (length pool.old ≡ 2048) × (self.now.now < 1000000) }
+    fn pass(&mut self, pool: &mut [u8; 2048]) -> Ticked
+        requires { self.now.now < 1000000 }
         ensures answer { ticked result ≡ (served (world D.Disk.meaning pool.old self.entry.now) (fault_in result) (choice self.entry.now.now self.entry.now.lanes)).1 }
         ensures bench { world D.Disk.meaning pool.new self.exit.now ≡ (served (world D.Disk.meaning pool.old self.entry.now) (fault_in result) (choice self.entry.now.now self.entry.now.lanes)).0 }
         ensures origin { ToldBy (D.Disk.faults self.entry.now.disk) self.entry.now.lanes result }
     {
-        let chosen = choose(self.now, &self.lanes);
-        match chosen {
+        match self.choose() {
             None => {
                 self.now += 1;
                 self.quiet = 0;
@@ -66,9 +65,30 @@ impl<D: Disk> Bench<D> {
         }
     }
 
+    // The read to make now: the earliest deadline among the lanes that are due, ties to the lower head.
+    fn choose(&self) -> Option<ReadRequest>
+        ensures { chosen_by result ≡ choice self.entry.now.now self.entry.now.lanes }
+    {
+        // An idle slot needs no queue.
+        if !any_due(self.now, &self.lanes) {
+            return None;
+        }
+        let none = ReadRequest {
+            deadline: 0,
+            head: 0,
+            block: 0,
+        };
+        let mut memory = [none; 8];
+        let mut queue = Queue::new(&mut memory);
+        for (head, lane) in self.lanes.iter().enumerate() {
+            offer(&mut queue, self.now, head as u8, lane);
+        }
+        queue.first()
+    }
+
     // A slot with a read for the lane of a head, which is due.
-    fn serve(&mut self, head: u32, pool: &mut [u8]) -> Ticked
-        requires { (head < 8) × ((due self.now.now (lane_at self.now.lanes head) ≡ true) × ((length pool.old ≡ 2048) × (self.now.now < 1000000))) }
+    fn serve(&mut self, head: u32, pool: &mut [u8; 2048]) -> Ticked
+        requires { (head < 8) × (due self.now.now (lane_at self.now.lanes head) ≡ true) × (self.now.now < 1000000) }
         ensures answer { ticked result ≡ (served (world D.Disk.meaning pool.old self.entry.now) (fault_in result) (Some (head, 0))).1 }
         ensures bench { world D.Disk.meaning pool.new self.exit.now ≡ (served (world D.Disk.meaning pool.old self.entry.now) (fault_in result) (Some (head, 0))).0 }
         ensures origin { FaultAt head (D.Disk.faults self.entry.now.disk (next_block (lane_at self.entry.now.lanes head))) result }
@@ -103,8 +123,8 @@ impl<D: Disk> Bench<D> {
 }
 
 // One read of the lane's lowest unread block into that block's buffer.
-fn attempt<D: Disk>(disk: &mut D, lane: &mut Lane, head: u32, pool: &mut [u8]) -> Ticked
-    requires { (live_ok lane.old ≡ true) × ((lane.old.next < lane.old.order.timing.count) × (length pool.old ≡ 2048)) }
+fn attempt<D: Disk>(disk: &mut D, lane: &mut Lane, head: u32, pool: &mut [u8; 2048]) -> Ticked
+    requires { (live_ok lane.old ≡ true) × (lane.old.next < lane.old.order.timing.count) }
     ensures outcome { Attempted (D.Disk.meaning disk.old) lane.old head pool.old result (D.Disk.meaning disk.new) lane.new pool.new }
     ensures origin { FaultAt head (D.Disk.faults disk.old (next_block lane.old)) result }
 {
@@ -164,49 +184,34 @@ fn how_ended(was: bool, lane: &Option<Lane>) -> Option<Cause>
     }
 }
 
+// The failed attempts that it tells, one or none.
 fn failures_in(told: &Ticked) -> u32
     ensures { result ≡ failures_in told.now }
 {
-    match told {
-        Ticked::Failed { .. } => 1,
-        _ => 0,
-    }
+    matches!(told, Ticked::Failed { .. }) as u32
 }
 
-// The read to make at `slot`: the earliest deadline among the lanes that are due, ties to the lower head.
-fn choose(slot: u32, lanes: &[Option<Lane>]) -> Option<ReadRequest>
-    requires { (length lanes.now ≡ 8) × (every lane_ok lanes.now ≡ true) }
-    ensures { chosen_by result ≡ choice slot lanes.now }
+fn any_due(slot: u32, lanes: &[Option<Lane>]) -> bool
+    ensures { result ≡ any (due slot) lanes.now }
 {
-    let first = first_due(slot, lanes);
-    if first == lanes.len() {
-        return None;
-    }
-    let none = ReadRequest {
-        deadline: 0,
-        head: 0,
-        block: 0,
+    lanes.iter().any(|lane| has_due(slot, lane))
+}
+
+fn has_due(slot: u32, lane: &Option<Lane>) -> bool
+    ensures { result ≡ some_and (due slot) lane.now }
+{
+    lane.as_ref().is_some_and(|lane| is_due(slot, lane))
+}
+
+// Whether the lane is live and its lowest unread block is released.
+fn is_due(slot: u32, lane: &Lane) -> bool
+    ensures { result ≡ due slot lane.now }
+{
+    let Stage::Live = lane.stage else {
+        return false;
     };
-    let mut memory = [none; 8];
-    let mut queue = Queue::new(&mut memory);
-    for head in first..lanes.len() {
-        offer(&mut queue, slot, head as u8, &lanes[head]);
-    }
-    queue.first()
-}
-
-// The first head whose lane is due, or how many there are: an idle slot needs no queue.
-fn first_due(slot: u32, lanes: &[Option<Lane>]) -> usize
-    requires { (length lanes.now ≡ 8) × (every lane_ok lanes.now ≡ true) }
-    ensures within { result ≤ length lanes.now }
-    ensures before { Requested deadline_of head_of slot lanes.now result [] }
-{
-    for head in 0..lanes.len() {
-        if let Some(_) = request(slot, head as u8, &lanes[head]) {
-            return head;
-        }
-    }
-    lanes.len()
+    let timing = &lane.order.timing;
+    lane.next < timing.count && timing.release(lane.admitted, lane.next) <= slot as u64
 }
 
 // Puts the request of a head's lane, if it is due.
@@ -214,8 +219,7 @@ fn offer(queue: &mut Queue<ReadRequest>, slot: u32, head: u8, lane: &Option<Lane
     requires { (lane_ok (lane_in lane.now) ≡ true) × (length (held queue.old) < room queue.old) }
     ensures { Offered slot head lane.now queue.old queue.new }
 {
-    let found = request(slot, head, lane);
-    let Some(item) = found else {
+    let Some(item) = request(slot, head, lane) else {
         return;
     };
     let _ = queue.put(item);
@@ -229,13 +233,7 @@ fn request(slot: u32, head: u8, lane: &Option<Lane>) -> Option<ReadRequest>
     let Some(lane) = lane else {
         return None;
     };
-    let Stage::Live = lane.stage else {
-        return None;
-    };
-    if lane.next >= lane.order.timing.count {
-        return None;
-    }
-    if lane.order.timing.release(lane.admitted, lane.next) > slot as u64 {
+    if !is_due(slot, lane) {
         return None;
     }
     Some(ReadRequest {
@@ -279,10 +277,7 @@ fn may_end(slot: u32, timing: &Timing) -> bool
     requires { 1 ≤ timing.now.period }
     ensures { result ≡ may_end slot timing.now }
 {
-    if slot < timing.start {
-        return false;
-    }
-    (slot - timing.start) % timing.period == 0
+    slot >= timing.start && (slot - timing.start) % timing.period == 0
 }
 
 // Whether a lease taken in this lane is out on a block whose burn ends at `slot`.

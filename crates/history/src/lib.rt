@@ -31,7 +31,7 @@ pub struct Lane {
     pub failed: u32,
     pub stage: Stage,
     // The first `order.timing.depth` are the lane's, by rising number, while it is live; block i uses the one at
-    // place i mod depth. The others mean nothing.
+    // place i mod depth. The others mean nothing: their number is the order's own, and needs no length beside it.
     pub buffers: [u8; 8],
 }
 
@@ -111,7 +111,7 @@ pub struct Report {
     pub failed: u32,
 }
 
-// A stage without its fault.
+// A stage without its fault: a byte, since every tick answers eight of them.
 #[derive(Clone, Copy)]
 pub enum Cause {
     Live,

@@ -10,7 +10,7 @@ pub invariant_of-self : goal.invariant_of-self
 invariant_of-self g c =
     let b = c.args.self.now in
     record {
-      time = omega (arith, c.requires.1);
+      time = omega (arith, c.requires);
       calls = omega (arith, b.calls);
       failed = b.failed;
       safe = b.safe;
@@ -25,7 +25,7 @@ pub serve-requires : goal.serve-requires
 serve-requires g c =
     let b = c.args.self.now in
     let d = chosen_due b.now b.lanes c.in-Some.request c.in-Some.ensures in
-    (omega (arith, d.0), (d.1, (c.requires.0, c.requires.1)))
+    (omega (arith, d.0), d.1, c.requires)
 
 pub returns-in-None : goal.returns-in-None
 returns-in-None g c =

@@ -11,16 +11,16 @@ use Rattle.bench.proofs.state.Bench.serve.Goals as goal
 pub attempt-told-requires : goal.attempt-told-requires
 attempt-told-requires g c =
     let b = c.args.self.now in
-    let d = due_ok b.now b.lanes c.args.head c.in-Some.lane b.safe c.in-Some.is c.requires.1.0 in
-    (d.0, (d.1, c.requires.1.1.0))
+    let d = due_ok b.now b.lanes c.args.head c.in-Some.lane b.safe c.in-Some.is c.requires.1 in
+    d
 
 pub invariant_of-self : goal.invariant_of-self
 invariant_of-self g c =
     let b = c.args.self.now in
-    let safe = attempted_every b.now b.lanes c.args.head c.in-Some.lane _ _ _ _ _ _ b.safe c.in-Some.is c.requires.1.0 c.attempt-told.ensures.outcome in
+    let safe = attempted_every b.now b.lanes c.args.head c.in-Some.lane _ _ _ _ _ _ b.safe c.in-Some.is c.requires.1 c.attempt-told.ensures.outcome in
     let apart = attempted_later b.now b.lapse b.lanes b.leases c.args.head c.in-Some.lane _ _ _ _ _ _ c.in-Some.is c.attempt-told.ensures.outcome b.unheld in
     record {
-      time = omega (arith, c.requires.1.1.1);
+      time = omega (arith, c.requires.2);
       calls = omega (arith, b.calls);
       failed = omega (arith, b.failed, failures_few c.attempt-told.result, c.failures_in.ensures);
       safe = safe;

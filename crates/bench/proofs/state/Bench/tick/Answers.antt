@@ -1,20 +1,23 @@
-use Rattle.std.proofs.Common.{◌+◌, sym, refl, ap, ◌∙◌, add-one, arith}
-use Rattle.std.proofs.lemmas.Bool.Decides.{nat_tests}
+use Rattle.std.proofs.Common.{ℕ, ◌+◌, List, length, sym, refl, ap, ◌∙◌, add-one, arith}
 use Rattle.history.specs.Bench.{World}
 use Rattle.history.specs.Calls.{Answer, all_aged, tick}
 use Rattle.bench.specs.Model.{world}
 use Rattle.bench.specs.Ticks.{no_fault, fault_in}
 use Rattle.bench.proofs.Rests.{all_later_sooner, quiet_choice, quiet_lanes, ends_none}
-use Rattle.bench.proofs.Ticks.{tick_served, served_idle, passed_is, ends_told}
+use Rattle.bench.proofs.Ticks.{tick_wrong, tick_last, tick_served, served_idle, passed_is, ends_told}
 use Rattle.bench.proofs.state.Bench.tick.Goals as goal
 
-pub returns-then-pool-ne2048 : goal.returns-then-pool-ne2048
-unfolding tick
-returns-then-pool-ne2048 g c = record { answer = grind (arith, nat_tests); bench = grind (arith, nat_tests); ended = tt; origin = tt }
+pub returns-in_default : goal.returns-in_default
+returns-in_default g c =
+    let e = sym (tick_wrong (world g.D.Disk.meaning c.args.pool.now c.args.self.now) no_fault c.in_default.ensures.cases) in
+    record { answer = ap (λ (x : World × Answer). x.1) e; bench = ap (λ (x : World × Answer). x.0) e; ended = tt; origin = tt }
 
 pub returns-then-self-eq1000000 : goal.returns-then-self-eq1000000
-unfolding tick
-returns-then-self-eq1000000 g c = record { answer = grind (arith, nat_tests); bench = grind (arith, nat_tests); ended = tt; origin = tt }
+returns-then-self-eq1000000 g c =
+    let k = c.in-Some.ensures.cases in
+    let w = λ (pool : List ℕ). world g.D.Disk.meaning pool c.args.self.now in
+    let e = sym (tick_last (w c.args.pool.now) no_fault k.long c.if-self-eq1000000.true) in
+    record { answer = ap (λ (x : World × Answer). x.1) e; bench = ap w k.same ∙ ap (λ (x : World × Answer). x.0) e; ended = tt; origin = tt }
 
 pub invariant_of-self : goal.invariant_of-self
 invariant_of-self g c =
@@ -34,10 +37,12 @@ invariant_of-self g c =
 pub returns-then-self : goal.returns-then-self
 returns-then-self g c =
     let b = c.args.self.now in
-    let w = world g.D.Disk.meaning c.args.pool.now b in
+    let k = c.in-Some.ensures.cases in
+    let w = world g.D.Disk.meaning c.in-Some.pool.now b in
+    let asked = λ (pool : List ℕ). tick (world g.D.Disk.meaning pool b) no_fault in
     let idle = quiet_choice b.now b.quiet b.lapse b.lanes b.leases (omega arith) b.sooner b.resting b.unheld in
     let same = quiet_lanes b.now b.quiet b.lapse b.lanes b.leases (omega arith) b.sooner b.resting b.unheld in
-    let e = sym (tick_served w no_fault (omega arith) (omega arith)) in
+    let e = sym (tick_served w no_fault (ap length k.same ∙ k.long) (omega arith)) ∙ ap asked k.same in
     let s = served_idle w no_fault (sym idle) in
     record {
       answer = s.1 ∙ ap (λ (x : World × Answer). x.1) e;
@@ -48,8 +53,9 @@ returns-then-self g c =
 
 pub returns : goal.returns
 returns g c =
-    let w = world g.D.Disk.meaning c.args.pool.now c.args.self.now in
-    let e = sym (tick_served w (fault_in c.pass-did.result) (omega arith) (omega arith)) in
+    let k = c.in-Some.ensures.cases in
+    let asked = λ (pool : List ℕ). tick (world g.D.Disk.meaning pool c.args.self.now) (fault_in c.pass-did.result) in
+    let e = sym (tick_served (world g.D.Disk.meaning c.in-Some.pool.now c.args.self.now) (fault_in c.pass-did.result) (ap length k.same ∙ k.long) (omega arith)) ∙ ap asked k.same in
     record {
       answer = c.pass-did.ensures.answer ∙ ap (λ (x : World × Answer). x.1) e;
       bench = c.pass-did.ensures.bench ∙ ap (λ (x : World × Answer). x.0) e;
