@@ -36,7 +36,7 @@ pub enum Call {
 }
 
 // What a call that was not refused answered.
-#[derive(Clone, Copy)]
+#[derive(Clone, Copy, PartialEq, Eq, Debug)]
 pub enum Answer {
     // An order is admitted, or a lease is back.
     Done,

@@ -8,7 +8,7 @@ pub struct Slip {
 }
 
 // The numbers of a slip.
-#[derive(Clone, Copy)]
+#[derive(Clone, Copy, PartialEq, Eq, Debug)]
 pub struct SlipNumbers {
     pub lease: u32,
     pub bench: u16,

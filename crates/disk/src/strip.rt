@@ -12,6 +12,7 @@ use refusal::Refusal;
 #[derive(Drop)]
 pub struct Strip<'a> {
     bytes: &'a [u8],
+    ghost fits: { StripFits (length bytes.now) },
 }
 
 impl<'a> Strip<'a> {

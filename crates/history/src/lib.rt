@@ -12,7 +12,7 @@ use refusal::Fault;
 use schedule::Timing;
 
 // The numbers of an order: `timing.count` blocks of the disk from `first` on, for one head.
-#[derive(Clone, Copy)]
+#[derive(Clone, Copy, PartialEq, Eq, Debug)]
 pub struct Asked {
     pub head: u32,
     pub first: u32,
@@ -20,7 +20,7 @@ pub struct Asked {
 }
 
 // The lane of an order, from its admission until it is closed.
-#[derive(Clone, Copy)]
+#[derive(Clone, Copy, PartialEq, Eq, Debug)]
 pub struct Lane {
     pub order: Asked,
     // The slot of admission.
@@ -36,7 +36,7 @@ pub struct Lane {
 }
 
 // A lane is live until it ends; what ended it.
-#[derive(Clone, Copy)]
+#[derive(Clone, Copy, PartialEq, Eq, Debug)]
 pub enum Stage {
     Live,
     // The burn of its last block ended.
@@ -50,7 +50,7 @@ pub enum Stage {
 }
 
 // What happens to a lane.
-#[derive(Clone, Copy)]
+#[derive(Clone, Copy, PartialEq, Eq, Debug)]
 pub enum Event {
     FailedAttempt(Fault),
     BlockRead,
@@ -61,7 +61,7 @@ pub enum Event {
 }
 
 // A block lent to a party.
-#[derive(Clone, Copy)]
+#[derive(Clone, Copy, PartialEq, Eq, Debug)]
 pub struct Lease {
     pub party: u32,
     // The lane in which it was taken, by its head and its slot of admission. The lane may have ended since.
@@ -77,7 +77,7 @@ pub struct Lease {
 }
 
 // What the disk did in a slot. Blocks are counted from their order's first.
-#[derive(Clone, Copy)]
+#[derive(Clone, Copy, PartialEq, Eq, Debug)]
 pub enum Ticked {
     Idle,
     Read {
@@ -94,7 +94,7 @@ pub enum Ticked {
 }
 
 // What a slot came to.
-#[derive(Clone, Copy)]
+#[derive(Clone, Copy, PartialEq, Eq, Debug)]
 pub struct Tick {
     pub did: Ticked,
     // By head: how its lane ended with this slot, if it did.
@@ -102,7 +102,7 @@ pub struct Tick {
 }
 
 // What is told of a lane.
-#[derive(Clone, Copy)]
+#[derive(Clone, Copy, PartialEq, Eq, Debug)]
 pub struct Report {
     pub stage: Stage,
     // The lowest unread block, and the count if there is none.
@@ -112,7 +112,7 @@ pub struct Report {
 }
 
 // A stage without its fault: a byte, since every tick answers eight of them.
-#[derive(Clone, Copy)]
+#[derive(Clone, Copy, PartialEq, Eq, Debug)]
 pub enum Cause {
     Live,
     Finished,

@@ -10,6 +10,7 @@ use std::alloc::{AllocError, Global};
 
 // The image of rows of 64 bytes, the last filled with zeros where it is short; Bad image where there are not 1 to
 // 4,096 rows. As a disk, the image has the rows as its blocks, with no failures to come.
+// A refusal within the answer of memory, as std's `String::from_utf16` has it: callers hand on the one by `?` and match the other.
 pub fn bed(heap: Global, rows: &[u8]) -> Result<Result<Vec<u8>, Refusal>, AllocError>
     ensures answer { IfOk result (λ a. MatchResult a
         (λ v. RowsFit (length rows.now) × (v.items ≡ bed_of rows.now) × MeansItsRows rows.now)

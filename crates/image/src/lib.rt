@@ -19,6 +19,7 @@ pub mod sum;
 #[derive(Drop)]
 pub struct Image<'a> {
     bytes: &'a [u8],
+    ghost fits: { ImageFits (length bytes.now) },
 }
 
 impl<'a> Image<'a> {

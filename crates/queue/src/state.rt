@@ -4,7 +4,8 @@ ghost use Rattle.queue.specs.Heaps.{Heaped};
 
 use crate::ordered::Total;
 
-// The items that were put and not yet removed. They are the first `len` of `items`.
+// The items that were put and not yet removed. They are the first `len` of `items`: the memory is the caller's, so that
+// a queue takes none, and what lies past them means nothing.
 #[derive(Drop)]
 pub struct Queue<'a, T: Total> {
     pub(crate) items: &'a mut [T],
