@@ -1,4 +1,5 @@
-// The marks of a chart, each an element of its SVG. A place on the chart is an x and a y in dots.
+// The marks of a chart, each an element of its SVG. A place on the chart is an x and a y in dots: two fields and no struct,
+// since the texts of the marks name them.
 ghost use Rattle.std.specs.Prelude.{◌≡◌, ◌++◌, Some, string_bytes, OnOk};
 ghost use Rattle.charts.specs.Marks.{mark_text, mark_line};
 
