@@ -1,13 +1,13 @@
 // A whole job: a cue list run over a plan over a bed image, and the log that it comes to.
 #![tactic(auto)]
 
-ghost use Rattle.std.specs.Prelude.{◌≡◌, ℕ, [], IfOk, Some};
+ghost use Rattle.std.specs.Prelude.{◌≡◌, ℕ, true, false, [], length, IfOk, MatchOption};
 ghost use Rattle.std.specs.Option.{option_map};
 ghost use Rattle.refusal.specs.declared.Fault.{Fault};
 ghost use Rattle.cuelists.specs.Lists.{list_read};
 ghost use Rattle.jobs.specs.Histories.{JobTold};
 ghost use Rattle.jobs.specs.Lines.{fault_line};
-ghost use Rattle.jobs.specs.Run.{job_text, read_text};
+ghost use Rattle.jobs.specs.Run.{image_fits, job_text, read_text};
 
 mod calling;
 mod cueing;
@@ -22,6 +22,7 @@ use image::Image;
 use layers::plan::{Entries, Plan};
 use loglines::LogLine;
 use queue::Queue;
+use refusal::Refusal;
 use slots::run_slots;
 use std::alloc::{AllocError, Global};
 use writing::add;
@@ -29,32 +30,27 @@ use writing::add;
 // The most bytes of a job's image: 936 records.
 const MOST_IMAGE: usize = 65_520;
 
-// The number of the refusal of an image that is bad or missing.
-const BAD_IMAGE: u8 = 15;
-
-// Runs the cues over a plan over the image, which is none where it is missing, and answers the log. Whatever faults the
-// disk tells, it is the one that the definition of a job gives; and it tells a history of calls on a new bench.
+// Runs the cues over a plan over the image, which is none where it is missing, and answers the log. A bad image is found
+// before the list is looked at. Whatever faults the disk tells, it is the one that the definition of a job gives; and it
+// tells a history of calls on a new bench.
 pub fn run(image: Option<&[u8]>, cues: &[u8], heap: Global) -> Result<Vec<u8>, AllocError>
     ensures text { IfOk result (λ log. (told : ℕ → Fault) → log.items ≡ job_text told (option_map (λ x. x.now) image.entry) cues.now) }
     ensures history { IfOk result (λ log. JobTold (option_map (λ x. x.now) image.entry) cues.now log.items) }
 {
-    match image {
-        Some(bytes) => run_image(bytes, cues, heap),
-        None => fault(heap, BAD_IMAGE, 0, 0),
+    match image.and_then(|bytes| disk_of(bytes)) {
+        Some(image) => run_list(image, cues, heap),
+        None => fault(heap, Refusal::BadImage.number(), 0, 0),
     }
 }
 
-// A bad image is found before the list is looked at.
-fn run_image(bytes: &[u8], cues: &[u8], heap: Global) -> Result<Vec<u8>, AllocError>
-    ensures { IfOk result (λ log. (told : ℕ → Fault) → log.items ≡ job_text told (Some bytes.now) cues.now) }
+// The disk of an image that a job takes.
+fn disk_of(bytes: &[u8]) -> Option<Image<'_>>
+    ensures { MatchOption result (image_fits (length bytes.now) ≡ false) (λ s. (image_fits (length bytes.now) ≡ true) × (s.bytes.now ≡ bytes.now)) }
 {
     if bytes.len() > MOST_IMAGE {
-        return fault(heap, BAD_IMAGE, 0, 0);
+        return None;
     }
-    match Image::new(bytes) {
-        Ok(image) => run_list(image, cues, heap),
-        Err(_) => fault(heap, BAD_IMAGE, 0, 0),
-    }
+    Image::new(bytes).ok()
 }
 
 // Reads the list and runs it, or answers its first fault.
