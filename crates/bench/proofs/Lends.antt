@@ -1,5 +1,5 @@
 -- What a take answers and leaves, check by check.
-use Rattle.std.proofs.Common.{◌≡◌, ℕ, ◌+◌, ◌<◌, ◌≤◌, Bool, true, false, cond, not, ◌||◌, ltb, leb, List, [], ◌∷◌, length, get_or, is_some, Some, None, Option, sym, refl, ap, ◌∙◌, subst, arith, MatchResult}
+use Rattle.std.proofs.Common.{◌≡◌, ℕ, ◌+◌, ◌<◌, ◌≤◌, Bool, true, false, cond, not, ◌||◌, ltb, leb, List, [], ◌∷◌, length, get_or, is_some, Some, None, Option, Result, sym, refl, ap, ◌∙◌, subst, arith, MatchResult}
 use Rattle.std.specs.List.{position, position_or_len}
 use Rattle.std.specs.Option.{ok_or}
 use Rattle.std.proofs.lemmas.List.Recursion.{is_position_or_len}
@@ -7,6 +7,7 @@ use Rattle.history.specs.declared.Lane.{Lane}
 use Rattle.history.specs.declared.Lease.{Lease}
 use Rattle.bench.specs.Sound.{live_ok}
 use Rattle.std.proofs.lemmas.Bool.Decides.{nat_tests}
+use Rattle.refusal.specs.declared.Refusal.{Refusal}
 use Rattle.refusal.specs.declared.Refusal.TheVariants.{Bounds, NotThere, LeasesOut, HeadEmpty}
 use Rattle.history.specs.Bench.{World, lane_at}
 use Rattle.std.proofs.lemmas.Bool.{false≢true, cond_both, ltb-true, ltb-false}
@@ -68,14 +69,16 @@ vacant_most [] = omega arith
 vacant_most (None ∷ es) = omega arith
 vacant_most (Some e ∷ es) = omega (arith, vacant_most es)
 
-abbrev pub Lowest : List (Option Lease) → Option ℕ → Type 0
-Lowest es r = MatchResult (ok_or r LeasesOut) (λ m. (m ≡ vacant es) × (m < length es)) (λ e. (vacant es ≡ length es) × (e ≡ LeasesOut))
+-- what a search for it answers
+module _ (es : List (Option Lease)) (r : Result ℕ Refusal) (is : r ≡ ok_or (position is_free es) LeasesOut) where
+  abbrev Lowest : Result ℕ Refusal → Type 0
+  Lowest q = MatchResult q (λ m. (m ≡ vacant es) × (m < length es)) (λ e. (vacant es ≡ length es) × (e ≡ LeasesOut))
 
-pub vacant_found : (es : List (Option Lease)) (r : Option ℕ) → r ≡ position is_free es → Lowest es r
-vacant_found es r is =
-    subst (Lowest es) (sym (is ∙ ap (λ n. cond (ltb n (length es)) (Some n) None) (sym (vacant_is es))))
-    (cond_both (ltb (vacant es) (length es)) (Some (vacant es)) None (Lowest es)
-    (λ t. (refl, ltb-true (vacant es) (length es) t)) (λ f. let most = vacant_most es in let past = ltb-false (vacant es) (length es) f in (omega arith, refl)))
+  pub lowest : Lowest r
+  lowest =
+      subst Lowest (sym (is ∙ ap (λ n. ok_or (cond (ltb n (length es)) (Some n) None) LeasesOut) (sym (vacant_is es))))
+      (cond_both (ltb (vacant es) (length es)) (Some (vacant es)) None (λ o. Lowest (ok_or o LeasesOut))
+      (λ t. (refl, ltb-true (vacant es) (length es) t)) (λ f. let most = vacant_most es in let past = ltb-false (vacant es) (length es) f in (omega arith, refl)))
 
 -- A LEASE OF A LIVE LANE
 

@@ -46,6 +46,7 @@ impl<D: Disk> Bench<D> {
             stage: Stage::Live,
             buffers,
         });
+        // The next tick works both out anew.
         self.lapse = 0;
         self.quiet = 0;
         self.live = true;

@@ -1,6 +1,7 @@
 // Taking, showing and giving back: the calls of those who use a block.
-ghost use Rattle.std.specs.Prelude.{◌≡◌, ℕ, ◌<◌, true, false, List, length, IfOk, MatchResult, slice_index_or};
-ghost use Rattle.history.specs.Calls.{answered, reported, leased, lease_told, honours, report, close, take_block, report_of, there, vacant};
+ghost use Rattle.std.specs.Prelude.{◌≡◌, ℕ, ◌<◌, true, false, not, is_some, List, IfOk, MatchResult, slice_index_or};
+ghost use Rattle.std.specs.List.{position};
+ghost use Rattle.history.specs.Calls.{answered, reported, leased, lease_told, honours, report, close, take_block, report_of, there};
 ghost use Rattle.bench.specs.Model.{world};
 
 use crate::lane::step;
@@ -76,7 +77,8 @@ impl<D: Disk> Bench<D> {
         if !is_there(self.now, &lane, block) {
             return Err(Refusal::NotThere);
         }
-        let number = first_vacant(&self.leases)?;
+        let number = first_vacant(&self.leases).ok_or(Refusal::LeasesOut)?;
+        // The next tick works both out anew.
         self.lapse = 0;
         self.quiet = 0;
         self.leases[number] = Some(Lease {
@@ -103,11 +105,10 @@ fn is_there(slot: u32, lane: &Lane, block: u32) -> bool
 }
 
 // The lowest lease number that is free.
-fn first_vacant(leases: &[Option<Lease>]) -> Result<usize, Refusal>
-    ensures { MatchResult result (λ m. (m ≡ vacant leases.now) × (m < length leases.now)) (λ e. (vacant leases.now ≡ length leases.now) × (e ≡ Refusal.LeasesOut)) }
+fn first_vacant(leases: &[Option<Lease>]) -> Option<usize>
+    ensures { result ≡ position (λ o. not (is_some o)) leases.now }
 {
-    let vacant = leases.iter().position(|lease| lease.is_none());
-    vacant.ok_or(Refusal::LeasesOut)
+    leases.iter().position(|lease| lease.is_none())
 }
 
 fn report_of(lane: &Lane) -> Report

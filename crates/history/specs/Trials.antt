@@ -1,10 +1,9 @@
 -- Worked examples of the definitions.
-use Rattle.std.specs.Prelude.{◌≡◌, ℕ, false, List, [], ◌∷◌, ◌++◌, map, take, replicate, None}
+use Rattle.std.specs.Prelude.{◌≡◌, ℕ, false, List, [], ◌∷◌, ◌++◌, map, take, replicate}
 use Rattle.refusal.specs.declared.Fault.{Fault}
 use Rattle.refusal.specs.declared.FaultKind.TheVariants.{ReadFailed}
 use Rattle.disk.specs.Meaning.{Block, failures}
 use Rattle.history.specs.declared.Asked.{Asked}
-use Rattle.history.specs.declared.Cause.TheVariants.{Held as CauseHeld}
 use Rattle.history.specs.declared.Stage.TheVariants.{Held}
 use Rattle.history.specs.declared.Ticked.TheVariants.{Idle, Read, Failed}
 use Rattle.history.specs.Bench.{Valid, World, lane_at}

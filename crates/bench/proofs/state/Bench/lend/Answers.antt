@@ -1,4 +1,5 @@
 use Rattle.std.proofs.Common.{◌≡◌, ℕ, ◌+◌, true, List, set, Some, sym, ap, ◌∙◌, subst, arith}
+use Rattle.std.specs.Option.{ok_or}
 use Rattle.std.proofs.lemmas.Bool.{lt-ltb}
 use Rattle.std.proofs.lemmas.Bool.Decides.{nat_tests}
 use Rattle.history.specs.Bench.{lane_at, buffer_of}
@@ -11,7 +12,7 @@ use Rattle.bench.specs.Quiet.{rests}
 use Rattle.bench.specs.Sound.{live_ok, lane_ok, lease_ok}
 use Rattle.bench.proofs.Rests.{every_true, rests_zero, all_later_zero}
 use Rattle.bench.proofs.Sound.{every_at, every_set_some, live_kept, there_live, buffer_below}
-use Rattle.bench.proofs.Lends.{take_off_limits, take_empty, take_gone, take_out, take_lent, lent_honoured, lendable}
+use Rattle.bench.proofs.Lends.{take_off_limits, take_empty, take_gone, take_out, take_lent, lent_honoured, lendable, lowest}
 use Rattle.bench.proofs.state.Bench.lend.Goals as goal
 
 pub returns-then-head-gt7 : goal.returns-then-head-gt7
@@ -37,7 +38,7 @@ pub returns-in_err-number : goal.returns-in_err-number
 returns-in_err-number g c =
     let there = c.if-not-is_there.ensures in
     let k = c.in_ok-lane.ensures in
-    let n = c.in_err-number.ensures in
+    let n = lowest c.args.self.now.leases _ (c.in_err-number.ensures.value ∙ ap (λ o. ok_or o LeasesOut) c.first_vacant.ensures) in
     let same = passed_on c.from_residual-in_err-number.result _ LeasesOut c.from_residual-in_err-number.ensures.1 n.1 in
     let e = λ (pool : List ℕ). take_out (world g.D.Disk.meaning pool c.args.self.now) c.args.head c.args.block c.args.party c.args.slip (grind (arith, nat_tests)) (grind (arith, nat_tests)) (grind (arith, nat_tests)) (grind (arith, nat_tests)) in
     record { answer = λ pool. ap (answered (λ m. lease_told c.args.self.now.number m c.args.party c.args.slip)) same ∙ sym (ap (λ r. r.1) (e pool)); bench = λ pool. sym (ap (λ r. r.0) (e pool)); honoured = rw same tt }
@@ -80,7 +81,7 @@ returns g c =
     let there = c.if-not-is_there.ensures in
     let k = c.in_ok-lane.ensures in
     let m = c.in_ok-number.number in
-    let n = c.in_ok-number.ensures.0 in
+    let n = (lowest b.leases _ (c.in_ok-number.ensures.value ∙ ap (λ o. ok_or o LeasesOut) c.first_vacant.ensures)).0 in
     let l : c.in_ok-lane.lane ≡ lane_at b.lanes c.args.head = grind arith in
     let w = λ (pool : List ℕ). world g.D.Disk.meaning pool b in
     let e = λ (pool : List ℕ). take_lent (w pool) c.args.head c.args.block c.args.party c.args.slip (grind (arith, nat_tests)) (grind (arith, nat_tests)) (grind (arith, nat_tests)) (grind (arith, nat_tests)) in
