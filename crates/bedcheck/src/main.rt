@@ -3,7 +3,6 @@
 
 use cuelists::due::Due;
 use cuelists::list::{ListFault, MOST_CALLS, read_list};
-use cues::Call;
 use disk::Disk;
 use disk::survey::{Unread, survey};
 use image::Image;
@@ -36,7 +35,7 @@ fn check(rt: &HostRuntime, image: Image) -> anyhow::Result<()> {
     rt.stdin().read_to_end(&mut input)?;
     let mut entries = Entries::new();
     if let Err(fault) = read_plan(input.as_slice(), &mut entries) {
-        return Ok(println!(rt; "{} {} {}", fault.number(), fault.line, fault.place)?);
+        return Ok(println!(rt; "{fault}")?);
     }
     let Ok(tries) = Tries::new(TRIES) else {
         return Ok(());
@@ -48,12 +47,7 @@ fn check(rt: &HostRuntime, image: Image) -> anyhow::Result<()> {
 
 // The plan of a cue list. Its calls are read too, and wait for no one.
 fn read_plan(input: &[u8], entries: &mut Entries) -> Result<(), ListFault> {
-    let none = Due {
-        slot: 0,
-        line: 0,
-        call: Call::Close { head: 0 },
-    };
-    let mut memory = [none; MOST_CALLS];
+    let mut memory = [Due::FILLER; MOST_CALLS];
     let mut queue = Queue::new(&mut memory);
     read_list(input, entries, &mut queue)
 }

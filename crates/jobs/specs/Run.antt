@@ -16,7 +16,7 @@ use Rattle.bench.specs.Sound.{order_ok}
 use Rattle.cues.specs.declared.Call.{Call}
 use Rattle.cues.specs.declared.Call.TheVariants.{Order, Take, Give, Close}
 use Rattle.cuelists.specs.Dues.{due_before}
-use Rattle.cuelists.specs.Lists.{Outcome, Sofar, reason_number, list_read}
+use Rattle.cuelists.specs.Lists.{Outcome, Sofar, reason_number, fault_place, list_read}
 use Rattle.cuelists.specs.declared.due.Due.{Due}
 use Rattle.cuelists.specs.declared.list.ListFault.{ListFault}
 use Rattle.jobs.specs.Lines.{cue_line, tick_line, ended_lines, done_line, fault_line}
@@ -114,7 +114,7 @@ abbrev pub job_bench : List ℕ → List Entry → World
 job_bench image entries = new 0 (job_disk image entries) (replicate 2048 0)
 
 abbrev pub list_text : (ℕ → Fault) → List ℕ → Sofar → Option ListFault → List ℕ
-list_text told image s (Some f) = fault_line (reason_number f.reason) f.line f.place
+list_text told image s (Some f) = fault_line (reason_number f.reason) f.line (fault_place f)
 list_text told image s None = slots_run told 1000000 (job_bench image s.entries) (in_order due_before s.calls)
 
 -- a list, read with room for 512 calls

@@ -17,7 +17,6 @@ mod writing;
 
 use cuelists::due::Due;
 use cuelists::list::{MOST_CALLS, read_list};
-use cues::Call;
 use disk::Disk;
 use image::Image;
 use layers::plan::{Entries, Plan};
@@ -62,16 +61,11 @@ fn run_image(bytes: &[u8], cues: &[u8], heap: Global) -> Result<Vec<u8>, AllocEr
 fn run_list(image: Image, cues: &[u8], heap: Global) -> Result<Vec<u8>, AllocError>
     ensures { IfOk result (λ log. (told : ℕ → Fault) → log.items ≡ read_text told image.entry.bytes.now (list_read 512 [] [] cues.now)) }
 {
-    let none = Due {
-        slot: 0,
-        line: 0,
-        call: Call::Close { head: 0 },
-    };
-    let mut memory = [none; MOST_CALLS];
+    let mut memory = [Due::FILLER; MOST_CALLS];
     let mut queue = Queue::new(&mut memory);
     let mut entries = Entries::new();
     match read_list(cues, &mut entries, &mut queue) {
-        Err(at) => fault(heap, at.number(), at.line, at.place),
+        Err(at) => fault(heap, at.number(), at.line, at.place()),
         Ok(()) => {
             let disk = Plan::new(image, entries);
             run_slots(disk, &mut queue, heap)
