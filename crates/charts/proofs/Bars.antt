@@ -1,16 +1,12 @@
 -- Bars added one after another, and the dots that they cover.
-use Rattle.std.proofs.Common.{◌≡◌, ℕ, ◌+◌, ◌<◌, ◌≤◌, List, [], ◌∷◌, ◌++◌, length, get_or, drop, Some, None, Option, sym, refl, ap, ◌∙◌, append_assoc, append-nil}
-use Rattle.std.specs.List.{flat_map}
+use Rattle.std.proofs.Common.{◌≡◌, ℕ, ◌+◌, ◌<◌, ◌≤◌, List, [], ◌∷◌, ◌++◌, length, get_or, drop, Some, None, Option, sym, ap, ◌∙◌, append_assoc, append-nil}
+use Rattle.std.proofs.lemmas.Grind.{flat_map-append}
 use Rattle.std.proofs.lemmas.List.{at_drop_more, at_drop_all}
 use Rattle.charts.specs.Marks.{mark_line}
 use Rattle.charts.specs.Bands.{span_of, slot_in, one_more, band_spans, closed, opened, bars, bar, bar_lines}
 use Rattle.charts.specs.declared.bands.Band.{Band}
 use Rattle.charts.specs.declared.bands.Span.{Span}
 use Rattle.charts.specs.declared.entry.Entry.{Entry}
-
-pub joined_append : {X A : Type 0} (f : X → List A) (xs ys : List X) → flat_map f (xs ++ ys) ≡ flat_map f xs ++ flat_map f ys
-joined_append f [] ys = refl
-joined_append f (x ∷ xs) ys = ap (λ l. f x ++ l) (joined_append f xs ys) ∙ sym (append_assoc (f x) (flat_map f xs) (flat_map f ys))
 
 module _ (last : ℕ) (b : Band) (head : ℕ) (es : List Entry) (i : ℕ) (pending : Option Span) (text whole : List ℕ)
     (so_far : text ++ bar_lines b head (bars (band_spans last b head (drop i es)) pending) ≡ whole) where
@@ -30,7 +26,7 @@ module _ (last : ℕ) (b : Band) (head : ℕ) (es : List Entry) (i : ℕ) (pendi
   turn_shown d h slot is s next after span added opens =
       let rest = band_spans last b head (drop (i + 1) es) in
       (λ j. added j ++ bar_lines b head (bars rest (Some (opens j)))) ∙ append_assoc text (bar_lines b head (closed pending s)) (bar_lines b head (bars rest (Some (opened pending s))))
-      ∙ ap (λ (l : List ℕ). text ++ l) (sym (joined_append (λ s. mark_line (bar b head s)) (closed pending s) (bars rest (Some (opened pending s)))))
+      ∙ ap (λ (l : List ℕ). text ++ l) (sym (flat_map-append (λ s. mark_line (bar b head s)) (closed pending s) (bars rest (Some (opened pending s)))))
       ∙ ap (λ (t : Span). text ++ bar_lines b head (bars (t ∷ rest) pending)) span ∙ at_entry d h (Some slot) is
 
   -- after the last entry the open bar is left
