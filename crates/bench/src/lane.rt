@@ -4,7 +4,8 @@ ghost use Rattle.history.specs.Calls.{happens};
 
 use history::{Event, Lane, Stage};
 
-// One event changes a live lane in place, and leaves an ended one as it is.
+// One event changes a live lane in place, and leaves an ended one as it is. A closure for each event would not show state and
+// event side by side.
 pub(crate) fn step(lane: &mut Lane, event: Event)
     requires { (lane.old.next < 2 ^ 31) × (lane.old.failed < 2 ^ 31) }
     ensures { lane.new ≡ happens lane.old event }

@@ -58,7 +58,7 @@ impl<D: Disk> Bench<D> {
         self.lend(head, block, party, false)
     }
 
-    // The same, by slip or by number.
+    // The same, by slip or by number. A call names head, block and party once, so they are no struct.
     pub(crate) fn lend(
         &mut self,
         head: u32,

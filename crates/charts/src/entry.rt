@@ -1,4 +1,5 @@
-// A line of a job's log, read back into a value. Its numbers stand as they are written, 1 to 7 digits each.
+// A line of a job's log, read back into a value. Its numbers stand as they are written, 1 to 7 digits each, also those of
+// answers and causes: a log may have a number that is none of theirs.
 ghost use Rattle.std.specs.Prelude.{◌≡◌, ◌≤◌, length};
 ghost use Rattle.cues.specs.Reading.{left, end, words_from, place_after};
 ghost use Rattle.charts.specs.Back.{WrittenLinesReadBack};

@@ -18,7 +18,8 @@ pub enum Cue {
 
 #[derive(Clone, Copy, PartialEq, Eq, PartialOrd, Ord, Debug)]
 pub enum Call {
-    // `S o H F n s p b k`: an order for head H, n blocks from F on.
+    // `S o H F n s p b k`: an order for head H, n blocks from F on. A list says what it says without a bench, whose type
+    // for these numbers is in a crate above.
     Order {
         head: u32,
         first: u32,
