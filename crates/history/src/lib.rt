@@ -111,7 +111,8 @@ pub struct Report {
     pub failed: u32,
 }
 
-// A stage without its fault: a byte, since every tick answers eight of them.
+// A stage without its fault: a byte, since every tick answers eight of them. In the order of the numbers by which a log
+// tells them, from 0.
 #[derive(Clone, Copy, PartialEq, Eq, Debug)]
 pub enum Cause {
     Live,

@@ -22,7 +22,8 @@ use std::alloc::{AllocError, Global};
 // No slot comes after this one.
 const LAST: u32 = 1_000_000;
 
-// Runs the cues that wait on a new bench over a disk, and answers the log.
+// Runs the cues that wait on a new bench over a disk, and answers the log. Bench, queue, pool and log go to each part by
+// themselves: of one struct each contract would also have to say what its part leaves alone.
 pub(crate) fn run_slots<D: Disk + Drop>(
     disk: D,
     queue: &mut Queue<Due>,

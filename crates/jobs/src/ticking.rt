@@ -2,7 +2,6 @@
 ghost use Rattle.std.specs.Prelude.{◌≡◌, ◌<◌, true, ◌++◌, length, OnOk};
 ghost use Rattle.std.specs.List.{list_all};
 ghost use Rattle.std.specs.Option.{is_none};
-ghost use Rattle.history.specs.Calls.{cause_number};
 ghost use Rattle.bench.specs.Model.{world};
 ghost use Rattle.jobs.specs.Lines.{did_line, ended_line, ended_lines};
 ghost use Rattle.jobs.specs.Run.{SlotPassed};
@@ -79,21 +78,8 @@ fn add_end(log: &mut Vec<u8>, slot: u32, head: u32, end: Option<Cause>) -> Resul
     match end {
         None => Ok(()),
         Some(cause) => {
-            let cause = number_of(cause);
+            let cause = cause as u8;
             add(log, &LogLine::Ended { slot, head, cause })
         }
-    }
-}
-
-// The number by which a report tells how a lane ended.
-fn number_of(cause: Cause) -> u8
-    ensures { result ≡ cause_number cause }
-{
-    match cause {
-        Cause::Live => 0,
-        Cause::Finished => 1,
-        Cause::Faulted => 2,
-        Cause::Held => 3,
-        Cause::Closed => 4,
     }
 }
