@@ -35,7 +35,7 @@ pub(crate) fn run_slots<D: Disk + Drop>(
     let mut pool = [0; 2048];
     let mut log = Vec::new(heap);
     let mut next = slot_of_first(queue);
-    loop {
+    'slots: loop {
         next = run_due(next, &mut bench, queue, &mut log)?;
         if is_over(&bench, next) {
             break;

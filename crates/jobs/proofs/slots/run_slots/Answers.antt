@@ -10,9 +10,9 @@ use Rattle.jobs.proofs.Running.{left_of, stays, slot_more, run_ends, run_goes, s
 use Rattle.jobs.proofs.Ticks.{passed_later}
 use Rattle.jobs.proofs.slots.run_slots.Goals as goal
 
-pub loop-log-smaller : goal.loop-log-smaller
-loop-log-smaller g c =
-    let l = c.loop-log in
+pub slots-smaller : goal.slots-smaller
+slots-smaller g c =
+    let l = c.slots in
     let ds : List Due = in_order due_before (held l.queue) in
     let ds₁ : List Due = in_order due_before (held c.run_due.new.queue) in
     let w : World = world g.D.Disk.meaning l.pool l.bench in
@@ -26,9 +26,9 @@ loop-log-smaller g c =
     let later : w₂.now ≡ suc w₁.now = passed_later w₁ w₂ log₁ (vec_items c.tick.new.log) l.invariant.0 early c.in_ok-tick.ensures in
     omega (arith, same, later, early)
 
-pub loop-log-preserved : goal.loop-log-preserved
-loop-log-preserved g c =
-    let l = c.loop-log in
+pub slots-preserved : goal.slots-preserved
+slots-preserved g c =
+    let l = c.slots in
     let ds : List Due = in_order due_before (held l.queue) in
     let ds₁ : List Due = in_order due_before (held c.run_due.new.queue) in
     let w : World = world g.D.Disk.meaning l.pool l.bench in
@@ -45,7 +45,7 @@ loop-log-preserved g c =
 
 pub returns : goal.returns
 returns g c told =
-    let l = c.loop-log in
+    let l = c.slots in
     let ds : List Due = in_order due_before (held l.queue) in
     let ds₁ : List Due = in_order due_before (held c.run_due.new.queue) in
     let w : World = world g.D.Disk.meaning l.pool l.bench in

@@ -7,12 +7,12 @@ use Rattle.jobs.specs.Run.{first_slot}
 use Rattle.jobs.proofs.Running.{left_of}
 use Rattle.jobs.proofs.slots.run_slots.Given as goal
 
-abbrev pub invariant-loop-log : goal.invariant-loop-log
-invariant-loop-log g l =
+abbrev pub invariant-slots : goal.invariant-slots
+invariant-slots g l =
     (length l.pool ≡ 2048)
     × (l.next ≡ first_slot (in_order due_before (held l.queue)))
     × (vec_items l.log ++ left_of (world g.D.Disk.meaning l.pool l.bench) (in_order due_before (held l.queue))
     ≡ left_of (world g.D.Disk.meaning l.initial.pool l.initial.bench) (in_order due_before (held l.initial.queue)))
 
-abbrev pub decreases-loop-log : goal.decreases-loop-log
-decreases-loop-log g l = 1000000 - l.bench.now
+abbrev pub decreases-slots : goal.decreases-slots
+decreases-slots g l = 1000000 - l.bench.now
