@@ -6,7 +6,7 @@ ghost use Rattle.bench.specs.Model.{world};
 ghost use Rattle.bench.specs.Performing.{Obeys, Performs, lent};
 
 use crate::order::Order;
-use crate::slip::SlipNumbers;
+pub use crate::slip::SlipNumbers;
 use crate::state::Bench;
 use disk::Disk;
 use history::{Report, Tick};

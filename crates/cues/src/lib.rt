@@ -18,8 +18,7 @@ pub enum Cue {
 
 #[derive(Clone, Copy, PartialEq, Eq, PartialOrd, Ord, Debug)]
 pub enum Call {
-    // `S o H F n s p b k`: an order for head H, n blocks from F on. A list says what it says without a bench, whose type
-    // for these numbers is in a crate above.
+    // `S o H F n s p b k`: an order for head H, n blocks from F on.
     Order {
         head: u32,
         first: u32,

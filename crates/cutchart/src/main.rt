@@ -1,6 +1,5 @@
 // Shows a job to the service engineer: reads its log from standard input and writes its chart, an SVG, to standard
 // output; or, where a line is no line of a log, number, line and place of the first wrong word.
-// Its `main` is that of `cuecheck` but for the call: shared, the four lines would need a crate and a closure.
 #![tactic(auto)]
 
 use charts::chart::chart_log;

@@ -19,8 +19,7 @@ impl<'a> Strip<'a> {
     // The tag of a strip's own faults.
     pub const TAG: u8 = 2;
 
-    // A strip over memory of 1 to 4,096 blocks; Wrong size where it is no such length. An image tests its bytes likewise:
-    // one function for both would be handed the width and the refusal, and be no shorter.
+    // A strip over memory of 1 to 4,096 blocks; Wrong size where it is no such length.
     pub fn new(bytes: &'a [u8]) -> Result<Strip<'a>, Refusal>
         ensures answer { MatchResult result
             (λ s. StripFits (length bytes.now) × (s.bytes.now ≡ bytes.now) × Proper (strip_meaning bytes.now))

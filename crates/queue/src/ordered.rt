@@ -1,5 +1,4 @@
-// The orders that a queue serves. Another bound, as std's `Ord`, would ask more of those who have items for a queue; theirs
-// can be a derived `<`, as those of requests and cues are.
+// The orders that a queue serves.
 ghost use Rattle.std.specs.Prelude.{◌≡◌, Bool};
 ghost use Rattle.std.specs.Cmp.{IsStrictWeakOrder};
 ghost use Rattle.queue.specs.Order.{Untied};

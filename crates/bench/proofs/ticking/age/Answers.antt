@@ -3,9 +3,6 @@ use Rattle.history.specs.Calls.{changed, aged}
 use Rattle.bench.proofs.Ticks.{live_from_ok, not_aged, period_some}
 use Rattle.bench.proofs.ticking.age.Goals as goal
 
-pub may_end-requires : goal.may_end-requires
-may_end-requires c = period_some c.in-Some.lane (live_from_ok _ _ c.in-Some.is c.in-Live.is c.requires)
-
 pub returns-then-not-may_end : goal.returns-then-not-may_end
 returns-then-not-may_end c =
     let t = c.args.slot in

@@ -8,6 +8,3 @@ age-requires c = ok_at c.args.lanes.now c.loop-lane.lane-index _ c.requires (sym
 
 pub loop-lane-preserved : goal.loop-lane-preserved
 loop-lane-preserved c = ap (λ o. set c.loop-lane.lanes c.loop-lane.lane-index o) c.age.ensures ∙ changed_more (changed (aged c.args.slot c.args.leases.now)) None c.args.lanes.now c.loop-lane.lanes c.loop-lane.lane-index (omega arith) c.loop-lane.invariant
-
-pub returns : goal.returns
-returns c = changed_all (changed (aged c.args.slot c.args.leases.now)) c.args.lanes.now c.loop-lane.lanes c.loop-lane.lane-index (omega arith) c.loop-lane.invariant

@@ -7,16 +7,6 @@ use Rattle.bench.proofs.ticking.attempt.Goals as goal
 pub slice_bounds-read-end : goal.slice_bounds-read-end
 slice_bounds-read-end g c = let p = buffer_small c.args.lane.now c.args.lane.now.next c.requires.0 in search rules
 
-pub step-requires-in-Err : goal.step-requires-in-Err
-step-requires-in-Err g c = live_small c.args.lane.now c.requires.0
-
-pub unreachable-requires : goal.unreachable-requires
-unreachable-requires g c =
-    let l = c.args.lane.now in
-    let p = buffer_small l l.next c.requires.0 in
-    let x = 64 * buffer_of l l.next in
-    never_others _ l c.args.head c.args.pool.now (omega arith) (x + 64 - x) c.in-Err.refusal (omega arith) c.in_default.not-Faulted c.in-Err.ensures.outcome.number
-
 pub returns-in-Ok : goal.returns-in-Ok
 returns-in-Ok g c =
     let l = c.args.lane.now in

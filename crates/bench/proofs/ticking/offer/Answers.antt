@@ -8,11 +8,6 @@ use Rattle.bench.specs.Ticks.{deadline_of, head_of}
 use Rattle.bench.proofs.Ticks.{put_in}
 use Rattle.bench.proofs.ticking.offer.Goals as goal
 
-pub returns-in_default : goal.returns-in_default
-returns-in_default c =
-    let t = c.args.slot in
-    record { room = refl; few = omega arith; requested = λ ls at r. requested_past deadline_of head_of t ls c.args.head _ (subst (λ x. due t (lane_in x) ≡ false) (sym at) c.in_default.ensures) r }
-
 pub returns : goal.returns
 returns c =
     let t = c.args.slot in

@@ -9,11 +9,6 @@ use Rattle.bench.proofs.state.Bench.choose.Goals as goal
 pub returns-then-not-any_due : goal.returns-then-not-any_due
 returns-then-not-any_due g c = sym (none_due c.args.self.now.now c.args.self.now.lanes (sym c.if-not-any_due.ensures))
 
-pub loop-head-init : goal.loop-head-init
-loop-head-init g c =
-    let made = c.new-queue.ensures in
-    (made.room, omega (arith, ap length made.held), subst (λ xs. Requested deadline_of head_of c.args.self.now.now c.args.self.now.lanes 0 xs) (sym made.held) (requested_none deadline_of head_of c.args.self.now.now c.args.self.now.lanes))
-
 pub offer-requires : goal.offer-requires
 offer-requires g c =
     let b = c.args.self.now in

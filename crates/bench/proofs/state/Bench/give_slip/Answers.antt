@@ -5,9 +5,6 @@ use Rattle.bench.proofs.Gives.{give_slip_taken}
 use Rattle.std.proofs.lemmas.Bool.Decides.{nat_tests}
 use Rattle.bench.proofs.state.Bench.give_slip.Goals as goal
 
-pub returns-then-slip : goal.returns-then-slip
-returns-then-slip g c = record { answer = λ fresh pool. grind (arith, nat_tests); bench = λ fresh pool. grind (arith, nat_tests); slip = (refl, grind (arith, nat_tests)); back = λ fresh good. grind (arith, nat_tests); spent = λ old. (refl, λ pool. refl) }
-
 pub returns-in_err-give_named-clause-back : goal.returns-in_err-give_named-clause-back
 returns-in_err-give_named-clause-back g c = λ fresh good.
     let taken = give_slip_taken (world g.D.Disk.meaning [] c.args.self.now) (named c.args.slip.now) (ap not good) in

@@ -32,14 +32,3 @@ returns-in-None g c =
     let w = world g.D.Disk.meaning c.args.pool.now c.args.self.now in
     let s = served_idle w no_fault c.in-None.ensures in
     record { answer = s.1; bench = c.settle.ensures c.args.pool.now ∙ (passed_is w _ refl ∙ s.0); origin = tt }
-
-pub returns-in-Some : goal.returns-in-Some
-returns-in-Some g c =
-    let b = c.args.self.now in
-    let told = c.serve.ensures in
-    let s = served_chosen (world g.D.Disk.meaning c.args.pool.now b) (fault_in c.serve.result) c.in-Some.request c.in-Some.ensures in
-    record {
-      answer = told.answer ∙ s.1;
-      bench = told.bench ∙ s.0;
-      origin = told_from (g.D.Disk.faults b.disk) b.lanes c.in-Some.request.head c.serve.result told.origin;
-    }
