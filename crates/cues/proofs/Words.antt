@@ -35,23 +35,21 @@ module _ (w : List ℕ) where
   pub number_true : 0 < length w → length w ≤ 7 → ((get_or w 0 0 ≡ 48) × (length w ≤ 1)) ⊎ (get_or w 0 0 ≡ 48 → ⊥) → all_ascii_digits w ≡ true → is_number w ≡ true
   number_true a b z d = grind (arith, nat_tests)
 
--- digits write the number of their value, and 7 of them one below 10,000,000
-pub own : IsNumeralModel (λ ds. all_ascii_digits ds ≡ true) number_value
-own = numerals_by_fold _ tells_all_ascii_digits (λ n ds. fold (λ m c. m * 10 + (c - 48)) n ds) (record { empty = λ n. refl; more = λ n c cs h. refl })
-
-pub number_parts : (w : List ℕ) → is_number w ≡ true → (all_ascii_digits w ≡ true) × (0 < length w) × (number_value w < 2 ^ 32)
-number_parts w e =
-    let d : all_ascii_digits w ≡ true = grind (arith, nat_tests) in
-    let size : (0 < length w) × (length w ≤ 7) = grind (arith, nat_tests) in
-    (d, size.0, omega (arith, digits_value_short own w 7 d size.1))
-
 pub digit_range : (c : ℕ) → is_ascii_digit c ≡ true → (48 ≤ c) × (c ≤ 57)
 digit_range c e = grind (arith, nat_tests)
 
-pub ascii_digits : (w : List ℕ) → all_ascii_digits w ≡ true → IsAscii w
-ascii_digits [] e i = lit< tt
-ascii_digits (c ∷ cs) e zero = omega (arith, digit_range c (and_parts (is_ascii_digit c) (all_ascii_digits cs) e).0)
-ascii_digits (c ∷ cs) e (suc i) = ascii_digits cs (and_parts (is_ascii_digit c) (all_ascii_digits cs) e).1 i
+pub digit_test : (w : List ℕ) (i : ℕ) → all_ascii_digits w ≡ true → i < length w → is_ascii_digit (get_or w i 0) ≡ true
+digit_test [] i e h = absurd (omega arith)
+digit_test (c ∷ cs) zero e h = (and_parts (is_ascii_digit c) (all_ascii_digits cs) e).0
+digit_test (c ∷ cs) (suc i) e h = digit_test cs i (and_parts (is_ascii_digit c) (all_ascii_digits cs) e).1 (omega arith)
+
+-- digits write the number of their value
+pub own : IsNumeralModel (λ ds. all_ascii_digits ds ≡ true) number_value
+own = numerals_by_fold _ tells_all_ascii_digits (λ n ds. fold (λ m c. m * 10 + (c - 48)) n ds) (record { empty = λ n. refl; more = λ n c cs h. refl })
+
+-- a number has at most 7 bytes, all of them digits
+pub number_parts : (w : List ℕ) → is_number w ≡ true → (all_ascii_digits w ≡ true) × (length w ≤ 7)
+number_parts w e = (grind (arith, nat_tests), grind (arith, nat_tests))
 
 pub digits_all : (w : List ℕ) → list_all is_ascii_digit w ≡ all_ascii_digits w
 digits_all [] = refl

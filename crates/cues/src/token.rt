@@ -74,10 +74,11 @@ fn number(word: &[u8]) -> Option<u32>
     if !is_number(word) {
         return None;
     }
-    let Ok(digits) = std::str::from_utf8(word) else {
-        return None;
-    };
-    digits.parse().ok()
+    let mut value: u32 = 0;
+    for digit in word {
+        value = value * 10 + (*digit - b'0') as u32;
+    }
+    Some(value)
 }
 
 fn is_number(word: &[u8]) -> bool

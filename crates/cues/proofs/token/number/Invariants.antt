@@ -1,0 +1,6 @@
+use Rattle.std.proofs.Common.{◌≡◌, ℕ, ◌^◌, ◌<◌, take}
+use Rattle.cues.specs.Words.{number_value}
+use Rattle.cues.proofs.token.number.Given as goal
+
+abbrev pub invariant-loop-digit : goal.invariant-loop-digit
+invariant-loop-digit l = (l.value ≡ number_value (take l.digit-index l.word)) × (l.value < 10 ^ l.digit-index)
