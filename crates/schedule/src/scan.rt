@@ -18,7 +18,10 @@ pub(crate) fn last_start(slot: u32, h: u32, work: &[Rest; 8]) -> u32
     requires { (h < 2000000) × (OverAt slot h work.now) }
     ensures { LastStart slot h work.now result }
 {
-    let mut lanes = work.map(|lane| lane.cut(h));
+    let mut lanes = *work;
+    for lane in lanes.iter_mut() {
+        *lane = lane.cut(h);
+    }
     let mut counted = 0;
     loop {
         let top = latest(slot, h, &lanes).unwrap();
