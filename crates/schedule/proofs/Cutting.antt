@@ -1,7 +1,10 @@
 -- The blocks that are due by h.
-use Rattle.std.proofs.Common.{◌≡◌, ℕ, suc, ◌+◌, ◌-◌, ◌/◌, ◌<◌, ◌≤◌, min, List, [], ◌∷◌, length, get_or, sym, refl, ap, ◌∙◌, subst, mul-le-mul_right, mul_comm, mul-le-mul_left, div-mul-le_self, arith}
+use Rattle.std.proofs.Common.{◌≡◌, ℕ, suc, ◌+◌, ◌-◌, ◌/◌, ◌<◌, ◌≤◌, min, set, List, [], ◌∷◌, length, get_or, sym, refl, ap, ◌∙◌, subst, mul-le-mul_right, mul_comm, mul-le-mul_left, div-mul-le_self, arith}
 use native.Mathlib.Nat.{lt-mul-div-succ}
 use Rattle.std.specs.List.{AllByRecursion}
+use Rattle.std.proofs.Common.{inl, inr}
+use Rattle.std.proofs.lemmas.Bool.{cases_eq}
+use Rattle.std.proofs.lemmas.List.{get_or-set_same, get_or-set_other, length-set}
 use Rattle.schedule.specs.declared.rest.Rest.{Rest}
 use Rattle.schedule.specs.Rests.{deadline_of, done, shortened, inside, total}
 use Rattle.schedule.specs.Scan.{CutAt, CutTo, DueBy}
@@ -46,3 +49,24 @@ module _ (h : ℕ) where
   -- each lane is cut
   pub cut_each : (ws rs : List Rest) → length ws ≡ 8 → length rs ≡ 8 → ((k : ℕ) → k < 8 → CutAt h (get_or ws k done) (get_or rs k done)) → CutTo h ws rs
   cut_each ws rs m n f = (let b = cut_lists ws rs (omega arith) (λ k lt. f k (omega arith)) in record { eight = n; same = b.0; due = b.1 })
+
+  -- the lanes before i are cut, the others as they were
+  pub record CutBefore (ws rs : List Rest) (i : ℕ) : Type 0 where
+    pub eight : length rs ≡ 8
+    pub cut : (k : ℕ) → k < i → CutAt h (get_or ws k done) (get_or rs k done)
+    pub same : (k : ℕ) → i ≤ k → get_or rs k done ≡ get_or ws k done
+
+  pub cut_begins : (ws : List Rest) → length ws ≡ 8 → CutBefore ws ws 0
+  cut_begins ws n = record { eight = n; cut = λ k lt. absurd (omega arith); same = λ k le. refl }
+
+  pub cut_next : (ws rs : List Rest) (i : ℕ) (r : Rest) → i < 8 → CutBefore ws rs i → CutAt h (get_or rs i done) r → CutBefore ws (set rs i r) (i + 1)
+  cut_next ws rs i r few b a = record {
+    eight = length-set rs i r ∙ b.eight;
+    cut = λ k lt. elim (cases_eq k i) [
+      | inl e ↦
+          let here : CutAt h (get_or ws i done) r = subst (λ w. CutAt h w r) (b.same i (omega arith)) a in
+          subst (λ j. CutAt h (get_or ws j done) (get_or (set rs i r) j done)) (sym e) (subst (CutAt h (get_or ws i done)) (sym (get_or-set_same rs i r done (omega (arith, b.eight)))) here)
+      | inr e ↦ subst (CutAt h (get_or ws k done)) (sym (get_or-set_other rs i k r done e)) (b.cut k (omega arith))
+    ];
+    same = λ k le. get_or-set_other rs i k r done (omega arith) ∙ b.same k (omega arith);
+  }

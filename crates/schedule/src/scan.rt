@@ -18,7 +18,10 @@ pub(crate) fn last_start(slot: u32, h: u32, work: &[Rest; 8]) -> u32
     requires { (h < 2000000) × (OverAt slot h work.now) }
     ensures { LastStart slot h work.now result }
 {
-    let mut lanes = work.map(|lane| lane.cut(h));
+    let mut lanes = *work;
+    for lane in lanes.iter_mut() {
+        *lane = lane.cut(h);
+    }
     let mut counted = 0;
     loop {
         let top = latest(slot, h, &lanes).unwrap();
@@ -38,9 +41,11 @@ fn latest(slot: u32, h: u32, lanes: &[Rest; 8]) -> Option<Top>
     let mut top: Option<Top> = None;
     // No chain of `filter` and `max_by_key`: what it finds was not proved, neither by the chain's lemmas nor without.
     for (head, lane) in lanes.iter().enumerate() {
-        let low = lane.last_start(slot, h);
-        if lane.next < lane.blocks && top.is_none_or(|t| t.low < low) {
-            top = Some(Top { head, low });
+        if lane.next < lane.blocks {
+            let low = lane.last_start(slot, h);
+            if top.is_none_or(|t| t.low < low) {
+                top = Some(Top { head, low });
+            }
         }
     }
     top
