@@ -1,10 +1,10 @@
 -- The sum, a word at a time.
-use Rattle.std.proofs.Common.{◌≡◌, ℕ, zero, suc, ◌+◌, ◌-◌, ◌*◌, ◌%◌, ◌<◌, ◌≤◌, min, List, ◌++◌, length, get_or, take, drop, sym, refl, ap, ◌∙◌, ⊎_elim, add-one, arith}
+use Rattle.std.proofs.Common.{◌≡◌, ℕ, zero, suc, ◌+◌, ◌-◌, ◌*◌, ◌/◌, ◌%◌, ◌<◌, ◌≤◌, min, List, ◌++◌, length, get_or, take, drop, sym, refl, ap, ◌∙◌, ⊎_elim, add-one, arith}
 use Rattle.std.proofs.lemmas.Bool.{cases_eq, cases_lt}
 use Rattle.std.proofs.lemmas.Bool.Decides.{nat_tests}
-use Rattle.std.proofs.lemmas.List.{get_or-take, get_or-drop, drop-drop}
+use Rattle.std.proofs.lemmas.List.{get_or-take, get_or-drop, get_or_past, drop-drop}
 use Rattle.image.proofs.Parts.{front_part}
-use Rattle.image.specs.Sums.{word_at, carried, sum_to, total_to, ones_complement}
+use Rattle.image.specs.Sums.{word_at, carried, sum_to, sum_of, total_to, ones_complement}
 
 pub sum_none : (xs : List ℕ) → sum_to xs 0 ≡ 0
 unfolding sum_to
@@ -40,3 +40,15 @@ next_word xs rest pair left k at e h =
     let high : get_or pair 0 0 ≡ get_or xs (2 * k) 0 = ap (λ l. get_or l 0 0) here ∙ get_or-take 2 (drop (2 * k) xs) 0 0 (omega arith) ∙ get_or-drop (2 * k) xs 0 0 ∙ ap (λ i. get_or xs i 0) (omega arith) in
     let low : get_or pair 1 0 ≡ get_or xs (2 * k + 1) 0 = ap (λ l. get_or l 1 0) here ∙ get_or-take 2 (drop (2 * k) xs) 1 0 (omega arith) ∙ get_or-drop (2 * k) xs 1 0 in
     ((λ i. high i * 256 + low i), sym f.1 ∙ ap (drop 2) at ∙ drop-drop 2 (2 * k) xs ∙ ap (λ j. drop j xs) (omega arith))
+
+-- the last word, of one byte or of none, ends the sum
+pub sum_ends : (xs : List ℕ) (k : ℕ) → k ≡ length xs / 2 → sum_to xs k < 65536 → sum_to xs (k + 1) ≡ sum_of xs
+sum_ends xs k e small =
+    ⊎_elim
+    (λ (even : length xs % 2 ≡ 0).
+    let high : get_or xs (2 * k) 0 ≡ 0 = get_or_past xs (2 * k) 0 (omega arith) in
+    let low : get_or xs (2 * k + 1) 0 ≡ 0 = get_or_past xs (2 * k + 1) 0 (omega arith) in
+    let all : k ≡ (length xs + 1) / 2 = omega arith in
+    sum_more xs k ∙ grind (arith, nat_tests) ∙ ap (sum_to xs) all)
+    (λ (odd : length xs % 2 ≡ 0 → ⊥). let all : k + 1 ≡ (length xs + 1) / 2 = omega arith in ap (sum_to xs) all)
+    (cases_eq (length xs % 2) 0)

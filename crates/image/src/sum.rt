@@ -9,13 +9,15 @@ pub fn sum(bytes: &[u8]) -> u32
     ensures law { result ≡ ones_complement (total_of bytes.now) }
 {
     let mut total = 0;
-    for pair in bytes.chunks(2) {
+    let pairs = bytes.chunks_exact(2);
+    let last = pairs.remainder();
+    for pair in pairs {
         total = carry(total + u32::from(pair_word(pair)));
     }
-    total
+    carry(total + u32::from(pair_word(last)))
 }
 
-// The word of two bytes, or of one.
+// The word of two bytes, of one, or of none.
 fn pair_word(pair: &[u8]) -> u16
     ensures { result ≡ word_at pair.now 0 }
 {
