@@ -206,7 +206,7 @@ impl Text<'_> {
     {
         match answer {
             Ok(()) => self.numbers(&[head, 0]),
-            Err(Refusal::Crowded(span)) => self.numbers(&[head, 6, span.l, span.h]),
+            Err(Refusal::Crowded(span)) => self.numbers(&[head, number_of(answer), span.l, span.h]),
             Err(refusal) => self.numbers(&[head, u32::from(refusal.number())]),
         }
     }
