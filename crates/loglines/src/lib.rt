@@ -1,14 +1,11 @@
 // The log of a job: each kind of line as a value, and its text written into the caller's memory.
 #![tactic(auto)]
 
-ghost use Rattle.std.specs.Prelude.{◌≡◌, ◌+◌, ◌*◌, ◌<◌, ◌≤◌, [], ◌∷◌, ◌++◌, length, IfOk, if◌then◌else◌, MatchResult, nat_lt};
-ghost use Rattle.std.specs.List.{flat_map};
+ghost use Rattle.std.specs.Prelude.{◌≡◌, ◌+◌, ◌*◌, ◌<◌, ◌≤◌, [], ◌∷◌, ◌++◌, length, IfOk, if◌then◌else◌, decimal, MatchResult, nat_lt};
 ghost use Rattle.refusal.specs.Told.{answer_number};
-ghost use Rattle.loglines.specs.Memory.{put};
+ghost use Rattle.loglines.specs.Memory.{put, Wrote};
 ghost use Rattle.loglines.specs.Text.{opening, spaced, order_told, take_told, log_text, log_line};
 
-use arrayvec::ArrayVec;
-use itoa::{Buffer, Integer};
 use refusal::Refusal;
 
 // No line has more bytes, its last one, byte 10, among them.
@@ -81,7 +78,6 @@ pub enum LogLine {
 impl LogLine {
     // Writes the line at the start of `out` and answers how many bytes it has, never more than 64; refuses with Short
     // output where `out` is shorter than that.
-    #[tactic(auto, unfolding(crate::specs::Memory::put))]
     pub fn write(&self, out: &mut [u8]) -> Result<usize, Refusal>
         ensures answer { answer_number result ≡ (if nat_lt (length out.old) 64 then 19 else 0) }
         ensures value { MatchResult result (λ n. n ≡ length (log_line self.now)) (λ _. length out.old < 64) }
@@ -91,24 +87,23 @@ impl LogLine {
         if out.len() < ROOM {
             return Err(Refusal::ShortOutput);
         }
-        let mut text = self.text();
-        text.bytes.push(b'\n');
-        let line = text.bytes.as_slice();
-        out[..line.len()].copy_from_slice(line);
-        Ok(line.len())
+        let mut text = Text { out, len: 0 };
+        self.write_text(&mut text);
+        text.byte(b'\n');
+        Ok(text.len)
     }
 
     // The line without its end.
-    fn text(&self) -> Text
-        ensures text { result.bytes.items ≡ log_text self.now }
-        ensures short { length result.bytes.items < 64 }
+    fn write_text(&self, text: &mut Text)
+        requires { (text.old.len ≡ 0) × (64 ≤ length text.old.out.now) }
+        ensures same_memory { text.new.out.ghost_name ≡ text.old.out.ghost_name }
+        ensures wrote { Wrote text.old.out.now 0 (log_text self.now) text.new.len text.new.out.now }
+        ensures short { text.new.len < 64 }
     {
         match self {
             LogLine::Order { slot, head, answer } => {
-                let mut text = Text::opening(*slot, b'o');
-                text.numbers(&[*head]);
-                text.order_answer(answer);
-                text
+                text.opening(*slot, b'o');
+                text.order_answer(*head, answer);
             }
             LogLine::Take {
                 slot,
@@ -117,10 +112,9 @@ impl LogLine {
                 party,
                 answer,
             } => {
-                let mut text = Text::opening(*slot, b't');
+                text.opening(*slot, b't');
                 text.numbers(&[*head, *block, *party]);
                 text.take_answer(answer);
-                text
             }
             LogLine::Give {
                 slot,
@@ -128,21 +122,16 @@ impl LogLine {
                 lease,
                 answer,
             } => {
-                let mut text = Text::opening(*slot, b'g');
-                text.numbers(&[*party, *lease]);
-                text.numbers(&[number_of(answer)]);
-                text
+                text.opening(*slot, b'g');
+                text.numbers(&[*party, *lease, number_of(answer)]);
             }
             LogLine::Close { slot, head, answer } => {
-                let mut text = Text::opening(*slot, b'c');
-                text.numbers(&[*head]);
-                text.numbers(&[number_of(answer)]);
-                text
+                text.opening(*slot, b'c');
+                text.numbers(&[*head, number_of(answer)]);
             }
             LogLine::Read { slot, head, block } => {
-                let mut text = Text::opening(*slot, b'r');
+                text.opening(*slot, b'r');
                 text.numbers(&[*head, *block]);
-                text
             }
             LogLine::Failed {
                 slot,
@@ -150,126 +139,158 @@ impl LogLine {
                 block,
                 attempt,
             } => {
-                let mut text = Text::opening(*slot, b'f');
+                text.opening(*slot, b'f');
                 text.numbers(&[*head, *block, *attempt]);
-                text
             }
             LogLine::Ended { slot, head, cause } => {
-                let mut text = Text::opening(*slot, b'e');
-                text.numbers(&[*head]);
-                text.numbers(&[*cause]);
-                text
+                text.opening(*slot, b'e');
+                text.numbers(&[*head, u32::from(*cause)]);
             }
             LogLine::Done {
                 slot,
                 attempts,
                 failed,
             } => {
-                let mut text = Text::new();
-                text.append(b"done");
+                text.done();
                 text.numbers(&[*slot, *attempts, *failed]);
-                text
             }
             LogLine::BadList {
                 number,
                 line,
                 place,
             } => {
-                let mut text = Text::new();
-                text.number(*number);
-                text.numbers(&[*line, *place]);
-                text
+                text.number(u64::from(*number));
+                text.spaced(*line as u64);
+                text.spaced(*place as u64);
             }
         }
     }
 }
 
-// A line as it is put together. No `impl Display` does it: as far as a contract knows, `write!` may fail, and
-// `LogLine::write` cannot.
+// A line as it is put together, in the caller's memory: its bytes so far are the first `len`. No `impl Display` does it:
+// as far as a contract knows, `write!` may fail, and `LogLine::write` cannot.
 #[derive(Drop)]
-struct Text {
-    bytes: ArrayVec<u8, ROOM>,
+struct Text<'a> {
+    out: &'a mut [u8],
+    len: usize,
 }
 
-impl Text {
-    fn new() -> Text
-        ensures { result.bytes.items ≡ [] }
-    {
-        Text {
-            bytes: ArrayVec::new(),
-        }
-    }
-
+impl Text<'_> {
     // The slot and the letter with which most lines begin.
-    fn opening(slot: u32, letter: u8) -> Text
-        ensures text { result.bytes.items ≡ opening slot letter }
-        ensures short { length result.bytes.items ≤ 12 }
+    fn opening(&mut self, slot: u32, letter: u8)
+        requires { self.old.len + 12 ≤ length self.old.out.now }
+        ensures same_memory { self.new.out.ghost_name ≡ self.old.out.ghost_name }
+        ensures wrote { Wrote self.old.out.now self.old.len (opening slot letter) self.new.len self.new.out.now }
+        ensures short { self.new.len ≤ self.old.len + 12 }
     {
-        let mut text = Text::new();
-        text.number(slot);
-        text.bytes.push(b' ');
-        text.bytes.push(letter);
-        text
+        self.number(u64::from(slot));
+        self.pair(b' ', letter);
     }
 
-    // An order's answer: its number, and the span where it is crowded.
-    fn order_answer(&mut self, answer: &Result<(), Refusal>)
-        requires { length self.old.bytes.items + 26 ≤ 64 }
-        ensures text { self.new.bytes.items ≡ self.old.bytes.items ++ spaced (order_told answer.now) }
-        ensures short { length self.new.bytes.items ≤ length self.old.bytes.items + 26 }
+    // The word with which the last line begins.
+    fn done(&mut self)
+        requires { self.old.len + 4 ≤ length self.old.out.now }
+        ensures same_memory { self.new.out.ghost_name ≡ self.old.out.ghost_name }
+        ensures wrote { Wrote self.old.out.now self.old.len (100 ∷ 111 ∷ 110 ∷ 101 ∷ []) self.new.len self.new.out.now }
     {
-        self.numbers(&[number_of(answer)]);
-        if let Err(Refusal::Crowded(span)) = answer {
-            self.numbers(&[span.l, span.h]);
+        self.pair(b'd', b'o');
+        self.pair(b'n', b'e');
+    }
+
+    // An order's head and answer: the answer's number, and the span where it is crowded.
+    fn order_answer(&mut self, head: u32, answer: &Result<(), Refusal>)
+        requires { self.old.len + 44 ≤ length self.old.out.now }
+        ensures same_memory { self.new.out.ghost_name ≡ self.old.out.ghost_name }
+        ensures wrote { Wrote self.old.out.now self.old.len (spaced (head ∷ order_told answer.now)) self.new.len self.new.out.now }
+        ensures short { self.new.len ≤ self.old.len + 44 }
+    {
+        match answer {
+            Ok(()) => self.numbers(&[head, 0]),
+            Err(Refusal::Crowded(span)) => self.numbers(&[head, number_of(answer), span.l, span.h]),
+            Err(refusal) => self.numbers(&[head, u32::from(refusal.number())]),
         }
     }
 
     // A take's answer: its number, and the lease where it is granted.
     fn take_answer(&mut self, answer: &Result<u8, Refusal>)
-        requires { length self.old.bytes.items + 8 ≤ 64 }
-        ensures text { self.new.bytes.items ≡ self.old.bytes.items ++ spaced (take_told answer.now) }
-        ensures short { length self.new.bytes.items ≤ length self.old.bytes.items + 8 }
+        requires { self.old.len + 8 ≤ length self.old.out.now }
+        ensures same_memory { self.new.out.ghost_name ≡ self.old.out.ghost_name }
+        ensures wrote { Wrote self.old.out.now self.old.len (spaced (take_told answer.now)) self.new.len self.new.out.now }
+        ensures short { self.new.len ≤ self.old.len + 8 }
     {
         match answer {
-            Ok(lease) => self.numbers(&[0, *lease]),
-            Err(refusal) => self.numbers(&[refusal.number()]),
+            Ok(lease) => {
+                self.pair(b' ', b'0');
+                self.spaced(u64::from(*lease));
+            }
+            Err(refusal) => self.spaced(u64::from(refusal.number())),
         }
     }
 
     // Each number after a space.
-    fn numbers<I: Integer>(&mut self, numbers: &[I])
-        requires { length self.old.bytes.items + (I.MAX_STR_LEN + 1) * length numbers.now ≤ 64 }
-        ensures text { self.new.bytes.items ≡ self.old.bytes.items ++ flat_map (λ n. 32 ∷ I.text n) numbers.now }
-        ensures short { length self.new.bytes.items ≤ length self.old.bytes.items + (I.MAX_STR_LEN + 1) * length numbers.now }
+    fn numbers(&mut self, numbers: &[u32])
+        requires { self.old.len + 11 * length numbers.now ≤ length self.old.out.now }
+        ensures same_memory { self.new.out.ghost_name ≡ self.old.out.ghost_name }
+        ensures wrote { Wrote self.old.out.now self.old.len (spaced numbers.now) self.new.len self.new.out.now }
+        ensures short { self.new.len ≤ self.old.len + 11 * length numbers.now }
     {
         for number in numbers {
-            self.bytes.push(b' ');
-            self.number(*number);
+            self.spaced(u64::from(*number));
         }
     }
 
-    fn number<I: Integer>(&mut self, number: I)
-        requires { length self.old.bytes.items + I.MAX_STR_LEN ≤ 64 }
-        ensures text { self.new.bytes.items ≡ self.old.bytes.items ++ I.text number }
-        ensures short { length self.new.bytes.items ≤ length self.old.bytes.items + I.MAX_STR_LEN }
+    // A number after a space.
+    fn spaced(&mut self, number: u64)
+        requires { self.old.len + 1 + length (decimal number) ≤ length self.old.out.now }
+        ensures same_memory { self.new.out.ghost_name ≡ self.old.out.ghost_name }
+        ensures wrote { Wrote self.old.out.now self.old.len (32 ∷ decimal number) self.new.len self.new.out.now }
     {
-        self.append(Buffer::new().format(number).as_bytes());
+        self.byte(b' ');
+        self.number(number);
     }
 
-    fn append(&mut self, bytes: &[u8])
-        requires { length self.old.bytes.items + length bytes.now ≤ 64 }
-        ensures { self.new.bytes.items ≡ self.old.bytes.items ++ bytes.now }
+    // The digits of a number.
+    fn number(&mut self, number: u64)
+        requires { self.old.len + length (decimal number) ≤ length self.old.out.now }
+        ensures same_memory { self.new.out.ghost_name ≡ self.old.out.ghost_name }
+        ensures wrote { Wrote self.old.out.now self.old.len (decimal number) self.new.len self.new.out.now }
     {
-        self.bytes.try_extend_from_slice(bytes).unwrap();
+        if number < 10 {
+            self.byte(b'0' + number as u8);
+            return;
+        }
+        self.number(number / 10);
+        self.byte(b'0' + (number % 10) as u8);
+    }
+
+    // Two bytes, the second at the place after the first: `len` is read and written once.
+    fn pair(&mut self, first: u8, second: u8)
+        requires { self.old.len + 2 ≤ length self.old.out.now }
+        ensures same_memory { self.new.out.ghost_name ≡ self.old.out.ghost_name }
+        ensures wrote { Wrote self.old.out.now self.old.len (first ∷ second ∷ []) self.new.len self.new.out.now }
+    {
+        let at = self.len;
+        self.out[at] = first;
+        self.out[at + 1] = second;
+        self.len = at + 2;
+    }
+
+    fn byte(&mut self, byte: u8)
+        requires { self.old.len < length self.old.out.now }
+        ensures same_memory { self.new.out.ghost_name ≡ self.old.out.ghost_name }
+        ensures wrote { Wrote self.old.out.now self.old.len (byte ∷ []) self.new.len self.new.out.now }
+    {
+        self.out[self.len] = byte;
+        self.len += 1;
     }
 }
 
 // 0 where the answer is granted, else the refusal's number.
-fn number_of(answer: &Result<(), Refusal>) -> u8
+fn number_of(answer: &Result<(), Refusal>) -> u32
     ensures value { result ≡ answer_number answer.now }
 {
     match answer {
         Ok(()) => 0,
-        Err(refusal) => refusal.number(),
+        Err(refusal) => u32::from(refusal.number()),
     }
 }

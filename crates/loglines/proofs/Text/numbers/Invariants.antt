@@ -1,8 +1,10 @@
-use Rattle.std.proofs.Common.{◌≡◌, ◌+◌, ◌*◌, ◌≤◌, ◌∷◌, ◌++◌, length, take}
-use Rattle.std.specs.List.{flat_map}
+use Rattle.std.proofs.Common.{◌≡◌, ◌+◌, ◌*◌, ◌≤◌, take}
+use Rattle.loglines.specs.Memory.{Wrote}
+use Rattle.loglines.specs.Text.{spaced}
 use Rattle.loglines.proofs.Text.numbers.Given as goal
 
 abbrev pub invariant-loop-number : goal.invariant-loop-number
-invariant-loop-number g l =
-    (l.self.bytes.items ≡ l.initial.self.bytes.items ++ flat_map (λ n. 32 ∷ g.I.Integer.text n) (take l.number-index l.numbers))
-    × (length l.self.bytes.items ≤ length l.initial.self.bytes.items + (g.I.Integer.MAX_STR_LEN + 1) * l.number-index)
+invariant-loop-number l =
+    (l.self.out.ghost_name ≡ l.initial.self.out.ghost_name)
+    × Wrote l.initial.self.out.now l.initial.self.len (spaced (take l.number-index l.numbers)) l.self.len l.self.out.now
+    × (l.self.len ≤ l.initial.self.len + 11 * l.number-index)
