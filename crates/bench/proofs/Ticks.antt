@@ -261,6 +261,13 @@ served_idle w f e = let s = ap (served w f) e in (ap (λ x. x.0) s, ap (λ x. x.
 pub served_chosen : (w : World) (f : Fault) (q : ReadRequest) → chosen_by (Some q) ≡ choice w.now w.lanes → ((served w f (Some (q.head, 0))).0 ≡ (served w f (choice w.now w.lanes)).0) × ((served w f (Some (q.head, 0))).1 ≡ (served w f (choice w.now w.lanes)).1)
 served_chosen w f q e = let s = ap (served w f) e in (ap (λ x. x.0) s, ap (λ x. x.1) s)
 
+-- the same of a whole tick
+pub tick_idle : (w : World) (f : Fault) → length w.pool ≡ 2048 → (w.now ≡ 1000000 → ⊥) → chosen_by None ≡ choice w.now w.lanes → (passed w ≡ (tick w f).0) × (ticked Idle ≡ (tick w f).1)
+tick_idle w f len more e = let t = sym (tick_served w f len more) in let s = served_idle w f e in (s.0 ∙ ap (λ x. x.0) t, s.1 ∙ ap (λ x. x.1) t)
+
+pub tick_chosen : (w : World) (f : Fault) (q : ReadRequest) → length w.pool ≡ 2048 → (w.now ≡ 1000000 → ⊥) → chosen_by (Some q) ≡ choice w.now w.lanes → ((served w f (Some (q.head, 0))).0 ≡ (tick w f).0) × ((served w f (Some (q.head, 0))).1 ≡ (tick w f).1)
+tick_chosen w f q len more e = let t = sym (tick_served w f len more) in let s = served_chosen w f q e in (s.0 ∙ ap (λ x. x.0) t, s.1 ∙ ap (λ x. x.1) t)
+
 pub passed_is : (w : World) (ls : List (Option Lane)) → ls ≡ all_aged (w.now + 1) w.leases w.lanes → record { number = w.number; now = w.now + 1; lanes = ls; leases = w.leases; disk = w.disk; pool = w.pool; attempts = w.attempts; failures = w.failures } ≡ passed w
 passed_is w ls e = λ i. record {
   number = w.number;
