@@ -8,6 +8,7 @@ ghost use Rattle.bench.specs.Model.{world};
 ghost use Rattle.schedule.specs.Answers.{FirstOverfullOrNone};
 
 use crate::order::Order;
+use crate::quiet::lane_lapse;
 use crate::state::Bench;
 use arrayvec::ArrayVec;
 use disk::Disk;
@@ -38,19 +39,19 @@ impl<D: Disk> Bench<D> {
         if let Some(span) = crowding(self.now, &asked, &self.lanes) {
             return Err(Refusal::Crowded(span));
         }
-        let lane = Some(Lane {
+        let lane = Lane {
             order: asked,
             admitted: self.now,
             next: 0,
             failed: 0,
             stage: Stage::Live,
             buffers,
-        });
-        // The next tick works both out anew.
-        self.lapse = 0;
+        };
+        self.lapse = self.lapse.min(lane_lapse(self.now, &lane, &self.leases));
+        // The next tick works it out anew.
         self.quiet = 0;
         self.live = true;
-        self.lanes[asked.head as usize] = lane;
+        self.lanes[asked.head as usize] = Some(lane);
         Ok(())
     }
 }
