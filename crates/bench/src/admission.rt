@@ -1,5 +1,5 @@
 // Admitting an order: the checks, and the lane that it begins.
-ghost use Rattle.std.specs.Prelude.{◌≡◌, ℕ, ◌≤◌, List, ◌∷◌, length, Ok};
+ghost use Rattle.std.specs.Prelude.{◌≡◌, ℕ, ◌≤◌, List, ◌∷◌, length, take, Ok};
 ghost use Rattle.bench.specs.Admits.{lane_uses, lease_uses, LowestOrTooFew, CanBeTried};
 ghost use Rattle.bench.specs.Orders.{OrderedExactlyWithinLimits};
 ghost use Rattle.history.specs.Bench.{some_and, in_use, free, works};
@@ -114,18 +114,23 @@ fn lowest_free(lanes: &[Option<Lane>], leases: &[Option<Lease>], depth: usize) -
     requires { depth ≤ 8 }
     ensures { LowestOrTooFew (free lanes.now leases.now) depth result }
 {
-    let free = free_buffers(lanes, leases);
+    let free = free_buffers(lanes, leases, depth);
     let lowest = free.as_slice().get(..depth)?;
     let mut buffers = [0; 8];
     buffers[..depth].copy_from_slice(lowest);
     Some(buffers)
 }
 
-fn free_buffers(lanes: &[Option<Lane>], leases: &[Option<Lease>]) -> ArrayVec<u8, 32>
-    ensures { result.items ≡ free lanes.now leases.now }
+// The `depth` lowest buffers that are free, or all that are where there are fewer: those above them are not tested.
+fn free_buffers(lanes: &[Option<Lane>], leases: &[Option<Lease>], depth: usize) -> ArrayVec<u8, 8>
+    requires { depth ≤ 8 }
+    ensures { result.items ≡ take depth (free lanes.now leases.now) }
 {
     let mut free = ArrayVec::new();
     for buffer in 0..32 {
+        if free.len() == depth {
+            return free;
+        }
         if !is_in_use(lanes, leases, buffer) {
             free.push(buffer);
         }
