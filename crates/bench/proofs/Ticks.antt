@@ -1,12 +1,12 @@
 -- What a slot does to a bench.
-use Rattle.std.proofs.Common.{◌≡◌, ℕ, zero, suc, ◌+◌, ◌-◌, ◌*◌, ◌%◌, ◌<◌, ◌≤◌, Bool, true, false, cond, not, ◌&&◌, ◌||◌, eqb, ltb, leb, List, [], ◌∷◌, ◌++◌, map, length, get_or, take, drop, set, Some, None, Ok, Err, Option, Result, sym, refl, ap, ◌∙◌, subst, inl, inr, add-zero, add-one, arith, MatchOption, MatchResult}
+use Rattle.std.proofs.Common.{◌≡◌, ℕ, suc, ◌+◌, ◌-◌, ◌*◌, ◌%◌, ◌<◌, ◌≤◌, Bool, true, false, cond, not, ◌&&◌, ◌||◌, eqb, ltb, leb, List, [], ◌∷◌, ◌++◌, map, length, get_or, take, drop, set, Some, None, Ok, Err, Option, Result, sym, refl, ap, ◌∙◌, subst, inl, inr, add-zero, add-one, arith, MatchOption, MatchResult}
 use Rattle.std.proofs.ByRecursion.{All-weaker}
 use Rattle.std.proofs.lemmas.List.{append_assoc, append-nil, length-map, length-take, length-drop, take_all, drop_all, drop_more, drop-drop, take-append-drop, map_more, get_or_at, set_at}
 use native.Mathlib.Nat.{mul-mod_left}
 use Rattle.std.specs.List.{position, position_or_len}
 use Rattle.std.proofs.lemmas.List.Sums.{fails_before_first}
 use Rattle.std.proofs.lemmas.Option.{none-some}
-use Rattle.std.proofs.lemmas.Bool.{or_parts, and_parts, both_ways, cases_Bool, cond_both, ltb-true, ltb-false}
+use Rattle.std.proofs.lemmas.Bool.{and_parts, both_ways, cases_Bool, cond_both, ltb-true, ltb-false}
 use Rattle.std.proofs.lemmas.Bool.Decides.{nat_tests}
 use Rattle.refusal.specs.Told.{refusal_number, answer_number}
 use Rattle.refusal.specs.declared.Fault.{Fault}
@@ -30,7 +30,7 @@ use Rattle.history.specs.Bench.{World, any, some_and, is_live, lane_in, lane_at,
 use Rattle.history.specs.Calls.{ticked, happens, on_live, moved, ended, aged, all_aged, due, choice, next_deadline, next_block, holds_up, passed, served, tick_checks, tick, Answer, attempted, read_done, read_failed, how_ended, ends, refuse}
 use Rattle.history.specs.Requests.{Requested}
 use Rattle.history.proofs.Checks.{passes}
-use Rattle.history.proofs.Choosing.{deadline_up, choice_none, chosen, Chosen, Idle as NoneDue}
+use Rattle.history.proofs.Choosing.{deadline_up, chosen, Chosen, Idle as NoneDue}
 use Rattle.history.proofs.Requests.{requested_first, requested_nothing}
 use Rattle.bench.specs.Quiet.{later, all_later, settled}
 use Rattle.bench.specs.Sound.{every, lane_ok, live_ok}

@@ -1,7 +1,6 @@
-use Rattle.std.proofs.Common.{length, sym, refl, ap, subst, arith}
+use Rattle.std.proofs.Common.{sym, refl, arith}
 use Rattle.queue.specs.Held.{held}
-use Rattle.history.specs.Requests.{Requested}
-use Rattle.history.proofs.Requests.{requested_none, requested_past}
+use Rattle.history.proofs.Requests.{requested_past}
 use Rattle.bench.specs.Ticks.{deadline_of, head_of}
 use Rattle.bench.proofs.Ticks.{ok_at, chosen_first, none_due, below_first}
 use Rattle.bench.proofs.state.Bench.choose.Goals as goal
