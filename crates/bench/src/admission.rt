@@ -1,8 +1,8 @@
 // Admitting an order: the checks, and the lane that it begins.
-ghost use Rattle.std.specs.Prelude.{◌≡◌, ℕ, ◌≤◌, List, ◌∷◌, length, take, Ok};
+ghost use Rattle.std.specs.Prelude.{◌≡◌, ℕ, ◌≤◌, List, [], ◌∷◌, length, take, Ok};
 ghost use Rattle.bench.specs.Admits.{lane_uses, lease_uses, LowestOrTooFew, CanBeTried};
 ghost use Rattle.bench.specs.Orders.{OrderedExactlyWithinLimits};
-ghost use Rattle.history.specs.Bench.{some_and, in_use, free, works};
+ghost use Rattle.history.specs.Bench.{some_and, has, in_use, free, works};
 ghost use Rattle.history.specs.Calls.{answered, done, admit, charged_with, new_work};
 ghost use Rattle.bench.specs.Model.{world};
 ghost use Rattle.schedule.specs.Answers.{FirstOverfullOrNone};
@@ -74,19 +74,22 @@ fn crowding(slot: u32, asked: &Asked, lanes: &[Option<Lane>]) -> Option<Span>
     requires { CanBeTried slot asked.now lanes.now }
     ensures { FirstOverfullOrNone (charged_with slot lanes.now asked.now) (Ok result) }
 {
-    match overfull(slot, works_with(slot, asked, lanes).as_slice()) {
+    let mut works = ArrayVec::new();
+    works_with(slot, asked, lanes, &mut works);
+    match overfull(slot, works.as_slice()) {
         Ok(span) => span,
         Err(_) => unreachable(),
     }
 }
 
-// What is left of the order that is to be admitted, all of it, and then of each live lane by rising head.
-fn works_with(slot: u32, asked: &Asked, lanes: &[Option<Lane>]) -> ArrayVec<Work, 8>
-    requires { length (works lanes.now) ≤ 7 }
-    ensures { result.items ≡ new_work slot asked.now ∷ works lanes.now }
+// Puts into `all`, which is empty, what is left of the order that is to be admitted, all of it, and then of each live lane
+// by rising head. It is filled where it lies: answered by value it would be copied twice.
+fn works_with(slot: u32, asked: &Asked, lanes: &[Option<Lane>], all: &mut ArrayVec<Work, 8>)
+    requires few { length (works lanes.now) ≤ 7 }
+    requires empty { all.old.items ≡ [] }
+    ensures { all.new.items ≡ new_work slot asked.now ∷ works lanes.now }
 {
-    let mut works = ArrayVec::new();
-    works.push(Work {
+    all.push(Work {
         timing: asked.timing,
         admitted: slot,
         next: 0,
@@ -99,14 +102,13 @@ fn works_with(slot: u32, asked: &Asked, lanes: &[Option<Lane>]) -> ArrayVec<Work
         let Stage::Live = lane.stage else {
             continue;
         };
-        works.push(Work {
+        all.push(Work {
             timing: lane.order.timing,
             admitted: lane.admitted,
             next: lane.next,
             failed: lane.failed,
         });
     }
-    works
 }
 
 // The `depth` lowest buffers that are free, in rising order, and zeros after them.
@@ -155,8 +157,16 @@ fn lane_uses(lane: &Option<Lane>, buffer: u8) -> bool
     let Stage::Live = lane.stage else {
         return false;
     };
-    let depth = lane.order.timing.depth as usize;
-    lane.buffers.iter().take(depth).any(|own| buffer == *own)
+    has_buffer(&lane.buffers, lane.order.timing.depth as usize, buffer)
+}
+
+// Whether the buffer is one of the first `depth`.
+fn has_buffer(buffers: &[u8], depth: usize, buffer: u8) -> bool
+    ensures { result ≡ has buffer (take depth buffers.now) }
+{
+    buffers[..depth.min(buffers.len())]
+        .iter()
+        .any(|own| buffer == *own)
 }
 
 fn lease_uses(lease: &Option<Lease>, buffer: u8) -> bool
