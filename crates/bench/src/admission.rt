@@ -2,7 +2,7 @@
 ghost use Rattle.std.specs.Prelude.{◌≡◌, ℕ, ◌≤◌, List, [], ◌∷◌, length, take, Ok};
 ghost use Rattle.bench.specs.Admits.{lane_uses, lease_uses, LowestOrTooFew, CanBeTried};
 ghost use Rattle.bench.specs.Orders.{OrderedExactlyWithinLimits};
-ghost use Rattle.history.specs.Bench.{some_and, has, in_use, free, works};
+ghost use Rattle.history.specs.Bench.{any, some_and, has, in_use, free, works};
 ghost use Rattle.history.specs.Calls.{answered, done, admit, charged_with, new_work};
 ghost use Rattle.bench.specs.Model.{world};
 ghost use Rattle.schedule.specs.Answers.{FirstOverfullOrNone};
@@ -144,8 +144,19 @@ fn free_buffers(lanes: &[Option<Lane>], leases: &[Option<Lease>], depth: usize) 
 fn is_in_use(lanes: &[Option<Lane>], leases: &[Option<Lease>], buffer: u8) -> bool
     ensures { result ≡ in_use lanes.now leases.now buffer }
 {
+    lanes_use(lanes, buffer) || leases_use(leases, buffer)
+}
+
+fn lanes_use(lanes: &[Option<Lane>], buffer: u8) -> bool
+    ensures { result ≡ any (lane_uses buffer) lanes.now }
+{
     lanes.iter().any(|lane| lane_uses(lane, buffer))
-        || leases.iter().any(|lease| lease_uses(lease, buffer))
+}
+
+fn leases_use(leases: &[Option<Lease>], buffer: u8) -> bool
+    ensures { result ≡ any (lease_uses buffer) leases.now }
+{
+    leases.iter().any(|lease| lease_uses(lease, buffer))
 }
 
 fn lane_uses(lane: &Option<Lane>, buffer: u8) -> bool
