@@ -1,13 +1,14 @@
 -- What admission does to a bench.
-use Rattle.std.proofs.Common.{◌≡◌, ℕ, zero, suc, ◌+◌, ◌-◌, ◌<◌, ◌≤◌, Bool, true, false, cond, not, ◌||◌, eqb, ltb, List, [], ◌∷◌, ◌++◌, length, get_or, take, drop, replicate, is_some, Some, None, Ok, filter, Option, refl, ap, ◌∙◌, subst, arith}
+use Rattle.std.proofs.Common.{◌≡◌, ℕ, zero, suc, ◌+◌, ◌-◌, ◌<◌, ◌≤◌, Bool, true, false, cond, not, ◌||◌, eqb, ltb, List, [], ◌∷◌, ◌++◌, length, get_or, take, drop, replicate, is_some, Some, None, Ok, filter, Option, sym, refl, ap, ◌∙◌, subst, arith}
 use Rattle.std.specs.List.{range_with_len, AllByRecursion, list_any}
-use Rattle.std.proofs.lemmas.List.{length-append, length-take, at_drop_more}
+use Rattle.std.proofs.Math.Seq.{take-append_seam}
+use Rattle.std.proofs.lemmas.List.{length-append, at_drop_more, take-append-drop, take_all}
 use Rattle.std.proofs.lemmas.Bool.{lt-ltb, le-ltb, and_from}
 use Rattle.std.proofs.lemmas.Bool.Decides.{nat_tests}
 use Rattle.refusal.specs.declared.Refusal.TheVariants.{HeadTaken, Past, OffDisk, PoolShort, Crowded}
 use Rattle.refusal.specs.declared.Span.{Span}
 use Rattle.std.proofs.lemmas.List.FromFn.{get_or-range_with_len}
-use Rattle.std.proofs.lemmas.List.Elements.{filter_more}
+use Rattle.std.proofs.lemmas.List.Elements.{filter_more, filter-append}
 use Rattle.history.specs.Bench.{has, in_use, free, is_live, work, works}
 use Rattle.history.specs.Bench.{World}
 use Rattle.history.specs.Calls.{Answer, done, refuse, checked, new_lane, new_work, charged_with, span_told, before_crowded, no_room, admitted, admit}
@@ -31,33 +32,31 @@ pub has_is : (x : ℕ) (ys : List ℕ) → list_any (eqb x) ys ≡ has x ys
 has_is x [] = refl
 has_is x (y ∷ ys) = ap (λ b. eqb x y || b) (has_is x ys)
 
-filter_few : {A : Type 0} (p : A → Bool) (xs : List A) → length (filter p xs) ≤ length xs
-filter_few p [] = omega arith
-filter_few p (x ∷ xs) = let r = filter_few p xs in by (p x) r
-  where
-    by : (b : Bool) → length (filter p xs) ≤ length xs → length (cond b (x ∷ filter p xs) (filter p xs)) ≤ suc (length xs)
-    by true r = omega arith
-    by false r = omega arith
-
--- the free ones of the first k, and of one more
-module _ (ls : List (Option Lane)) (es : List (Option Lease)) (k : ℕ) (h : k < 32) where
+module _ (ls : List (Option Lane)) (es : List (Option Lease)) where
   abbrev is_free : ℕ → Bool
   is_free x = not (in_use ls es x)
 
+  -- the free ones of the first n
   abbrev below : ℕ → List ℕ
   below n = filter is_free (take n (range_with_len 0 32))
 
-  pub free_few : length (below k) < 32
-  free_few = omega (arith, filter_few is_free (take k (range_with_len 0 32)), length-take k (range_with_len 0 32))
-
-  pub free_more : (b : Bool) → in_use ls es k ≡ b → below (k + 1) ≡ below k ++ cond (not b) (k ∷ []) []
-  free_more b e =
+  pub free_more : (k : ℕ) → k < 32 → (b : Bool) → in_use ls es k ≡ b → below (k + 1) ≡ below k ++ cond (not b) (k ∷ []) []
+  free_more k h b e =
       subst (λ x. below (k + 1) ≡ below k ++ cond (is_free x) (x ∷ []) []) (get_or-range_with_len 0 32 k 0 h ∙ omega arith) (filter_more is_free (range_with_len 0 32) k 0 h)
       ∙ ap (λ b. below k ++ cond (not b) (k ∷ []) []) e
 
-pub free_whole : (ls : List (Option Lane)) (es : List (Option Lease)) (k : ℕ) → k ≡ 32 → filter (λ x. not (in_use ls es x)) (take k (range_with_len 0 32)) ≡ free ls es
-unfolding free
-free_whole ls es k h = ap (λ n. filter (λ x. not (in_use ls es x)) (take n (range_with_len 0 32))) h
+  module _ (k n : ℕ) (xs : List ℕ) where
+    -- where they are n, they are the n lowest of all
+    pub free_first : xs ≡ below k → length xs ≡ n → xs ≡ take n (free ls es)
+    unfolding free
+    free_first is long =
+        let rest : List ℕ = filter is_free (drop k (range_with_len 0 32)) in
+        let whole : below k ++ rest ≡ free ls es = sym (filter-append is_free (take k (range_with_len 0 32)) (drop k (range_with_len 0 32))) ∙ ap (filter is_free) (take-append-drop k (range_with_len 0 32)) in
+        is ∙ sym (take-append_seam (below k) rest) ∙ ap (λ m. take m (below k ++ rest)) (sym (ap length is) ∙ long) ∙ ap (take n) whole
+
+    pub free_all : k ≡ 32 → xs ≡ below k → length xs ≤ n → xs ≡ take n (free ls es)
+    unfolding free
+    free_all last is few = let all : xs ≡ free ls es = is ∙ ap below last in sym (take_all n xs few) ∙ ap (take n) all
 
 -- WHAT IS CHARGED
 

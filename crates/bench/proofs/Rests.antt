@@ -168,6 +168,17 @@ all_later_close now t ls es h e = every_set_none (λ l. every (later now t l) es
 pub all_later_give : (now t : ℕ) (ls : List (Option Lane)) (es : List (Option Lease)) (m : ℕ) → all_later now t ls es ≡ true → all_later now t ls (set es m None) ≡ true
 all_later_give now t ls es m e = every_weaker (λ l. every (later now t l) es) (λ l. every (later now t l) (set es m None)) (λ l h. every_set_none (later now t l) es m h) ls e
 
+-- with the lease e besides, which is apart until `own`
+pub all_later_lend : (now t own r : ℕ) (ls : List (Option Lane)) (es : List (Option Lease)) (m : ℕ) (e : Lease) → r ≤ t → r ≤ own → all_later now t ls es ≡ true → every (λ l. later now own l e) ls ≡ true → all_later now r ls (set es m (Some e)) ≡ true
+all_later_lend now t own r ls es m e le le' f g =
+    every_both (λ l. every (later now r l) es) (λ l. later now own l e) (λ l. every (later now r l) (set es m (Some e)))
+    (λ l a b. every_set_some (later now r l) es m e a (later_lower now own r l e le' b)) ls (all_later_lower now t r ls es le f) g
+
+-- with the lane l besides
+pub all_later_admit : (now t own r : ℕ) (ls : List (Option Lane)) (es : List (Option Lease)) (h : ℕ) (l : Lane) → r ≤ t → r ≤ own → all_later now t ls es ≡ true → every (later now own l) es ≡ true → all_later now r (set ls h (Some l)) es ≡ true
+all_later_admit now t own r ls es h l le le' f g =
+    all_later_lane now r ls es h l (all_later_lower now t r ls es le f) (every_weaker (later now own l) (later now r l) (λ e. later_lower now own r l e le') es g)
+
 pub running_set : (ls : List (Option Lane)) (h : ℕ) (l : Lane) → h < length ls → is_live l.stage ≡ true → running (set ls h (Some l)) ≡ true
 running_set [] h l lt e = absurd (omega arith)
 running_set (o ∷ ls) zero l lt e = ap (λ b. b || running ls) e
@@ -193,12 +204,6 @@ ends_none ls ls' is =
     (λ h _. same_at 8 h None ∙ sym (ap (λ xs. how_ended (is_live (lane_at ls h).stage) (get_or xs h None)) is ∙ none_ended (get_or ls h None)))
 
 -- UNTIL WHEN
-
-pub all_later_zero : (now : ℕ) (ls : List (Option Lane)) (es : List (Option Lease)) → all_later now 0 ls es ≡ true
-all_later_zero now ls es = every_true (λ l. every (later now 0 l) es) (λ l. every_true (later now 0 l) (λ e. later_zero l e) es) ls
-  where
-    later_zero : (l : Lane) (e : Lease) → later now 0 l e ≡ true
-    later_zero l e = grind (arith, nat_tests)
 
 pub quiet_rests : (never q r : ℕ) (l : Lane) → r ≡ quiet_of never l → q ≤ r → rests q l ≡ true
 quiet_rests never q r l is le = grind (arith, nat_tests)

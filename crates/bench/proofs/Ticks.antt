@@ -1,9 +1,12 @@
 -- What a slot does to a bench.
-use Rattle.std.proofs.Common.{◌≡◌, ℕ, zero, suc, ◌+◌, ◌-◌, ◌*◌, ◌%◌, ◌<◌, ◌≤◌, Bool, true, false, cond, not, ◌&&◌, ◌||◌, eqb, ltb, leb, List, [], ◌∷◌, ◌++◌, map, length, get_or, take, drop, set, Some, None, Ok, Err, Option, Result, sym, refl, ap, ◌∙◌, subst, inl, inr, add-zero, add-one, arith, MatchOption, MatchResult}
+use Rattle.std.proofs.Common.{◌≡◌, ℕ, suc, ◌+◌, ◌-◌, ◌*◌, ◌%◌, ◌<◌, ◌≤◌, Bool, true, false, cond, not, ◌&&◌, ◌||◌, eqb, ltb, leb, List, [], ◌∷◌, ◌++◌, map, length, get_or, take, drop, set, Some, None, Ok, Err, Option, Result, sym, refl, ap, ◌∙◌, subst, inl, inr, add-zero, add-one, arith, MatchOption, MatchResult}
 use Rattle.std.proofs.ByRecursion.{All-weaker}
 use Rattle.std.proofs.lemmas.List.{append_assoc, append-nil, length-map, length-take, length-drop, take_all, drop_all, drop_more, drop-drop, take-append-drop, map_more, get_or_at, set_at}
 use native.Mathlib.Nat.{mul-mod_left}
-use Rattle.std.proofs.lemmas.Bool.{or_parts, and_parts, both_ways, cases_Bool, cond_both, ltb-true}
+use Rattle.std.specs.List.{position, position_or_len}
+use Rattle.std.proofs.lemmas.List.Sums.{fails_before_first}
+use Rattle.std.proofs.lemmas.Option.{none-some}
+use Rattle.std.proofs.lemmas.Bool.{and_parts, both_ways, cases_Bool, cond_both, ltb-true, ltb-false}
 use Rattle.std.proofs.lemmas.Bool.Decides.{nat_tests}
 use Rattle.refusal.specs.Told.{refusal_number, answer_number}
 use Rattle.refusal.specs.declared.Fault.{Fault}
@@ -23,11 +26,11 @@ use Rattle.history.specs.declared.Stage.TheVariants.{Live, Finished, Faulted as 
 use Rattle.history.specs.declared.Ticked.{Ticked}
 use Rattle.history.specs.declared.Ticked.TheVariants.{Idle, Read, Failed}
 use Rattle.schedule.specs.declared.Timing.{Timing}
-use Rattle.history.specs.Bench.{World, any, is_live, lane_in, lane_at, buffer_of, written}
+use Rattle.history.specs.Bench.{World, any, some_and, is_live, lane_in, lane_at, buffer_of, written}
 use Rattle.history.specs.Calls.{ticked, happens, on_live, moved, ended, aged, all_aged, due, choice, next_deadline, next_block, holds_up, passed, served, tick_checks, tick, Answer, attempted, read_done, read_failed, how_ended, ends, refuse}
 use Rattle.history.specs.Requests.{Requested}
 use Rattle.history.proofs.Checks.{passes}
-use Rattle.history.proofs.Choosing.{deadline_up, choice_none, chosen, Chosen, Idle as NoneDue}
+use Rattle.history.proofs.Choosing.{deadline_up, chosen, Chosen, Idle as NoneDue}
 use Rattle.history.proofs.Requests.{requested_first, requested_nothing}
 use Rattle.bench.specs.Quiet.{later, all_later, settled}
 use Rattle.bench.specs.Sound.{every, lane_ok, live_ok}
@@ -87,16 +90,36 @@ pub chosen_first : (t : ℕ) (ls : List (Option Lane)) (n : ℕ) (xs : List Read
 chosen_first t ls n xs None le q f = sym (requested_nothing deadline_of head_of t ls n le (subst (λ ys. Requested deadline_of head_of t ls n ys) f q))
 chosen_first t ls n xs (Some x) le q f = sym (requested_first deadline_of head_of t ls n xs x le q f.0 (All-weaker _ _ (λ y h. soonest x y h) xs f.1))
 
--- where no lane is due nothing is chosen
-pub none_due : (t : ℕ) (ls : List (Option Lane)) → any (due t) ls ≡ false → choice t ls ≡ None
-none_due t ls e = choice_none t ls (at ls e)
-  where
-    at : (ls : List (Option Lane)) → any (due t) ls ≡ false → (g : ℕ) → due t (lane_at ls g) ≡ false
-    at [] e g = refl
-    at (None ∷ ls) e zero = refl
-    at (None ∷ ls) e (suc g) = at ls e g
-    at (Some l ∷ ls) e zero = (or_parts (due t l) _ e).0
-    at (Some l ∷ ls) e (suc g) = at ls (or_parts (due t l) _ e).1 g
+some_due : (t : ℕ) (o : Option Lane) → some_and (due t) o ≡ due t (lane_in o)
+some_due t None = refl
+some_due t (Some l) = refl
+
+-- the first head whose lane is due
+module _ (t : ℕ) (ls : List (Option Lane)) where
+  abbrev first : ℕ
+  first = position_or_len (some_and (due t)) ls
+
+  not_due : (g : ℕ) → g < first → due t (lane_at ls g) ≡ false
+  not_due g lt = sym (some_due t (get_or ls g None)) ∙ fails_before_first (some_and (due t)) ls g None lt
+
+  none_before : (n : ℕ) → n ≤ first → Requested deadline_of head_of t ls n []
+  none_before n le = record { each = tt; every = λ g lt d. absurd (both_ways _ (not_due g (omega arith)) d) }
+
+  found : (b : Bool) (i : ℕ) → cond b (Some first) None ≡ Some i → i ≡ first
+  found true i e = cc
+  found false i e = absurd (none-some i e)
+
+  past : (b : Bool) → cond b (Some first) None ≡ None → b ≡ false
+  past true e = absurd (none-some first (sym e))
+  past false e = refl
+
+  -- where there is none nothing is chosen
+  pub none_due : position (some_and (due t)) ls ≡ None → choice t ls ≡ None
+  none_due e = let all = ltb-false first (length ls) (past _ e) in requested_nothing deadline_of head_of t ls (length ls) (omega arith) (none_before (length ls) all)
+
+  -- those below it are not due
+  pub below_first : (i h : ℕ) → position (some_and (due t)) ls ≡ Some i → h < i → due t (lane_at ls h) ≡ false
+  below_first i h e lt = let is = found _ i e in not_due h (omega arith)
 
 -- what is chosen stands on a head and is due
 pub chosen_due : (t : ℕ) (ls : List (Option Lane)) (q : ReadRequest) → chosen_by (Some q) ≡ choice t ls → (q.head < length ls) × (due t (lane_at ls q.head) ≡ true)
@@ -260,6 +283,13 @@ served_idle w f e = let s = ap (served w f) e in (ap (λ x. x.0) s, ap (λ x. x.
 
 pub served_chosen : (w : World) (f : Fault) (q : ReadRequest) → chosen_by (Some q) ≡ choice w.now w.lanes → ((served w f (Some (q.head, 0))).0 ≡ (served w f (choice w.now w.lanes)).0) × ((served w f (Some (q.head, 0))).1 ≡ (served w f (choice w.now w.lanes)).1)
 served_chosen w f q e = let s = ap (served w f) e in (ap (λ x. x.0) s, ap (λ x. x.1) s)
+
+-- the same of a whole tick
+pub tick_idle : (w : World) (f : Fault) → length w.pool ≡ 2048 → (w.now ≡ 1000000 → ⊥) → chosen_by None ≡ choice w.now w.lanes → (passed w ≡ (tick w f).0) × (ticked Idle ≡ (tick w f).1)
+tick_idle w f len more e = let t = sym (tick_served w f len more) in let s = served_idle w f e in (s.0 ∙ ap (λ x. x.0) t, s.1 ∙ ap (λ x. x.1) t)
+
+pub tick_chosen : (w : World) (f : Fault) (q : ReadRequest) → length w.pool ≡ 2048 → (w.now ≡ 1000000 → ⊥) → chosen_by (Some q) ≡ choice w.now w.lanes → ((served w f (Some (q.head, 0))).0 ≡ (tick w f).0) × ((served w f (Some (q.head, 0))).1 ≡ (tick w f).1)
+tick_chosen w f q len more e = let t = sym (tick_served w f len more) in let s = served_chosen w f q e in (s.0 ∙ ap (λ x. x.0) t, s.1 ∙ ap (λ x. x.1) t)
 
 pub passed_is : (w : World) (ls : List (Option Lane)) → ls ≡ all_aged (w.now + 1) w.leases w.lanes → record { number = w.number; now = w.now + 1; lanes = ls; leases = w.leases; disk = w.disk; pool = w.pool; attempts = w.attempts; failures = w.failures } ≡ passed w
 passed_is w ls e = λ i. record {

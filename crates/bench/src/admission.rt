@@ -1,13 +1,14 @@
 // Admitting an order: the checks, and the lane that it begins.
-ghost use Rattle.std.specs.Prelude.{◌≡◌, ℕ, ◌≤◌, List, ◌∷◌, length, Ok};
+ghost use Rattle.std.specs.Prelude.{◌≡◌, ℕ, ◌≤◌, List, [], ◌∷◌, length, take, Ok};
 ghost use Rattle.bench.specs.Admits.{lane_uses, lease_uses, LowestOrTooFew, CanBeTried};
 ghost use Rattle.bench.specs.Orders.{OrderedExactlyWithinLimits};
-ghost use Rattle.history.specs.Bench.{some_and, in_use, free, works};
+ghost use Rattle.history.specs.Bench.{any, some_and, has, in_use, free, works};
 ghost use Rattle.history.specs.Calls.{answered, done, admit, charged_with, new_work};
 ghost use Rattle.bench.specs.Model.{world};
 ghost use Rattle.schedule.specs.Answers.{FirstOverfullOrNone};
 
 use crate::order::Order;
+use crate::quiet::lane_lapse;
 use crate::state::Bench;
 use arrayvec::ArrayVec;
 use disk::Disk;
@@ -38,19 +39,19 @@ impl<D: Disk> Bench<D> {
         if let Some(span) = crowding(self.now, &asked, &self.lanes) {
             return Err(Refusal::Crowded(span));
         }
-        let lane = Some(Lane {
+        let lane = Lane {
             order: asked,
             admitted: self.now,
             next: 0,
             failed: 0,
             stage: Stage::Live,
             buffers,
-        });
-        // The next tick works both out anew.
-        self.lapse = 0;
+        };
+        self.lapse = self.lapse.min(lane_lapse(self.now, &lane, &self.leases));
+        // The next tick works it out anew.
         self.quiet = 0;
         self.live = true;
-        self.lanes[asked.head as usize] = lane;
+        self.lanes[asked.head as usize] = Some(lane);
         Ok(())
     }
 }
@@ -73,19 +74,22 @@ fn crowding(slot: u32, asked: &Asked, lanes: &[Option<Lane>]) -> Option<Span>
     requires { CanBeTried slot asked.now lanes.now }
     ensures { FirstOverfullOrNone (charged_with slot lanes.now asked.now) (Ok result) }
 {
-    match overfull(slot, works_with(slot, asked, lanes).as_slice()) {
+    let mut works = ArrayVec::new();
+    works_with(slot, asked, lanes, &mut works);
+    match overfull(slot, works.as_slice()) {
         Ok(span) => span,
         Err(_) => unreachable(),
     }
 }
 
-// What is left of the order that is to be admitted, all of it, and then of each live lane by rising head.
-fn works_with(slot: u32, asked: &Asked, lanes: &[Option<Lane>]) -> ArrayVec<Work, 8>
-    requires { length (works lanes.now) ≤ 7 }
-    ensures { result.items ≡ new_work slot asked.now ∷ works lanes.now }
+// Puts into `all`, which is empty, what is left of the order that is to be admitted, all of it, and then of each live lane
+// by rising head. It is filled where it lies: answered by value it would be copied twice.
+fn works_with(slot: u32, asked: &Asked, lanes: &[Option<Lane>], all: &mut ArrayVec<Work, 8>)
+    requires few { length (works lanes.now) ≤ 7 }
+    requires empty { all.old.items ≡ [] }
+    ensures { all.new.items ≡ new_work slot asked.now ∷ works lanes.now }
 {
-    let mut works = ArrayVec::new();
-    works.push(Work {
+    all.push(Work {
         timing: asked.timing,
         admitted: slot,
         next: 0,
@@ -98,14 +102,13 @@ fn works_with(slot: u32, asked: &Asked, lanes: &[Option<Lane>]) -> ArrayVec<Work
         let Stage::Live = lane.stage else {
             continue;
         };
-        works.push(Work {
+        all.push(Work {
             timing: lane.order.timing,
             admitted: lane.admitted,
             next: lane.next,
             failed: lane.failed,
         });
     }
-    works
 }
 
 // The `depth` lowest buffers that are free, in rising order, and zeros after them.
@@ -113,18 +116,23 @@ fn lowest_free(lanes: &[Option<Lane>], leases: &[Option<Lease>], depth: usize) -
     requires { depth ≤ 8 }
     ensures { LowestOrTooFew (free lanes.now leases.now) depth result }
 {
-    let free = free_buffers(lanes, leases);
+    let free = free_buffers(lanes, leases, depth);
     let lowest = free.as_slice().get(..depth)?;
     let mut buffers = [0; 8];
     buffers[..depth].copy_from_slice(lowest);
     Some(buffers)
 }
 
-fn free_buffers(lanes: &[Option<Lane>], leases: &[Option<Lease>]) -> ArrayVec<u8, 32>
-    ensures { result.items ≡ free lanes.now leases.now }
+// The `depth` lowest buffers that are free, or all that are where there are fewer: those above them are not tested.
+fn free_buffers(lanes: &[Option<Lane>], leases: &[Option<Lease>], depth: usize) -> ArrayVec<u8, 8>
+    requires { depth ≤ 8 }
+    ensures { result.items ≡ take depth (free lanes.now leases.now) }
 {
     let mut free = ArrayVec::new();
     for buffer in 0..32 {
+        if free.len() == depth {
+            return free;
+        }
         if !is_in_use(lanes, leases, buffer) {
             free.push(buffer);
         }
@@ -136,8 +144,19 @@ fn free_buffers(lanes: &[Option<Lane>], leases: &[Option<Lease>]) -> ArrayVec<u8
 fn is_in_use(lanes: &[Option<Lane>], leases: &[Option<Lease>], buffer: u8) -> bool
     ensures { result ≡ in_use lanes.now leases.now buffer }
 {
+    lanes_use(lanes, buffer) || leases_use(leases, buffer)
+}
+
+fn lanes_use(lanes: &[Option<Lane>], buffer: u8) -> bool
+    ensures { result ≡ any (lane_uses buffer) lanes.now }
+{
     lanes.iter().any(|lane| lane_uses(lane, buffer))
-        || leases.iter().any(|lease| lease_uses(lease, buffer))
+}
+
+fn leases_use(leases: &[Option<Lease>], buffer: u8) -> bool
+    ensures { result ≡ any (lease_uses buffer) leases.now }
+{
+    leases.iter().any(|lease| lease_uses(lease, buffer))
 }
 
 fn lane_uses(lane: &Option<Lane>, buffer: u8) -> bool
@@ -149,8 +168,16 @@ fn lane_uses(lane: &Option<Lane>, buffer: u8) -> bool
     let Stage::Live = lane.stage else {
         return false;
     };
-    let depth = lane.order.timing.depth as usize;
-    lane.buffers.iter().take(depth).any(|own| buffer == *own)
+    has_buffer(&lane.buffers, lane.order.timing.depth as usize, buffer)
+}
+
+// Whether the buffer is one of the first `depth`.
+fn has_buffer(buffers: &[u8], depth: usize, buffer: u8) -> bool
+    ensures { result ≡ has buffer (take depth buffers.now) }
+{
+    buffers[..depth.min(buffers.len())]
+        .iter()
+        .any(|own| buffer == *own)
 }
 
 fn lease_uses(lease: &Option<Lease>, buffer: u8) -> bool

@@ -5,7 +5,7 @@ ghost use Rattle.history.specs.Calls.{answered, reported, leased, lease_told, ho
 ghost use Rattle.bench.specs.Model.{world};
 
 use crate::lane::step;
-use crate::quiet::any_live;
+use crate::quiet::{any_live, lease_lapse};
 use crate::state::Bench;
 use disk::Disk;
 use history::{Event, Lane, Lease, Report, Stage};
@@ -78,10 +78,7 @@ impl<D: Disk> Bench<D> {
             return Err(Refusal::NotThere);
         }
         let number = first_vacant(&self.leases).ok_or(Refusal::LeasesOut)?;
-        // The next tick works both out anew.
-        self.lapse = 0;
-        self.quiet = 0;
-        self.leases[number] = Some(Lease {
+        let lease = Lease {
             party,
             head,
             admitted: lane.admitted,
@@ -89,7 +86,11 @@ impl<D: Disk> Bench<D> {
             block: lane.order.first + block,
             buffer: lane.buffers[(block % lane.order.timing.depth) as usize],
             slip,
-        });
+        };
+        self.lapse = self.lapse.min(lease_lapse(self.now, &self.lanes, &lease));
+        // The next tick works it out anew.
+        self.quiet = 0;
+        self.leases[number] = Some(lease);
         Ok(number as u8)
     }
 }

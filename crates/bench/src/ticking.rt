@@ -1,6 +1,7 @@
 // One slot of a bench: the read of the earliest deadline, and the burns that end.
 ghost use Rattle.std.specs.Prelude.{◌≡◌, ℕ, ◌<◌, ◌≤◌, true, false, List, [], length, IfOk, Some, MatchOption};
 ghost use Rattle.queue.specs.Held.{held, room};
+ghost use Rattle.std.specs.List.{position};
 ghost use Rattle.history.specs.Bench.{any, some_and, is_live, lane_in, lane_at};
 ghost use Rattle.history.specs.Calls.{answered, ticked, tick, served, due, choice, next_block, holds_up, changed, aged, all_aged, ends, how_ended};
 ghost use Rattle.history.specs.Requests.{Requested};
@@ -70,9 +71,9 @@ impl<D: Disk> Bench<D> {
         ensures { chosen_by result ≡ choice self.entry.now.now self.entry.now.lanes }
     {
         // An idle slot needs no queue.
-        if !any_due(self.now, &self.lanes) {
+        let Some(first) = first_due(self.now, &self.lanes) else {
             return None;
-        }
+        };
         let none = ReadRequest {
             deadline: 0,
             head: 0,
@@ -81,6 +82,9 @@ impl<D: Disk> Bench<D> {
         let mut memory = [none; 8];
         let mut queue = Queue::new(&mut memory);
         for (head, lane) in self.lanes.iter().enumerate() {
+            if head < first {
+                continue;
+            }
             offer(&mut queue, self.now, head as u8, lane);
         }
         queue.first()
@@ -191,10 +195,11 @@ fn failures_in(told: &Ticked) -> u32
     matches!(told, Ticked::Failed { .. }) as u32
 }
 
-fn any_due(slot: u32, lanes: &[Option<Lane>]) -> bool
-    ensures { result ≡ any (due slot) lanes.now }
+// The first head whose lane is due.
+fn first_due(slot: u32, lanes: &[Option<Lane>]) -> Option<usize>
+    ensures { result ≡ position (some_and (due slot)) lanes.now }
 {
-    lanes.iter().any(|lane| has_due(slot, lane))
+    lanes.iter().position(|lane| has_due(slot, lane))
 }
 
 fn has_due(slot: u32, lane: &Option<Lane>) -> bool

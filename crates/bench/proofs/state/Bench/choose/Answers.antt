@@ -1,13 +1,18 @@
-use Rattle.std.proofs.Common.{length, sym, refl, ap, subst, arith}
+use Rattle.std.proofs.Common.{sym, refl, arith}
 use Rattle.queue.specs.Held.{held}
-use Rattle.history.specs.Requests.{Requested}
-use Rattle.history.proofs.Requests.{requested_none}
+use Rattle.history.proofs.Requests.{requested_past}
 use Rattle.bench.specs.Ticks.{deadline_of, head_of}
-use Rattle.bench.proofs.Ticks.{ok_at, chosen_first, none_due}
+use Rattle.bench.proofs.Ticks.{ok_at, chosen_first, none_due, below_first}
 use Rattle.bench.proofs.state.Bench.choose.Goals as goal
 
-pub returns-then-not-any_due : goal.returns-then-not-any_due
-returns-then-not-any_due g c = sym (none_due c.args.self.now.now c.args.self.now.lanes (sym c.if-not-any_due.ensures))
+pub returns-in_default : goal.returns-in_default
+returns-in_default g c = sym (none_due c.args.self.now.now c.args.self.now.lanes (sym c.in_default.ensures))
+
+pub loop-head-preserved-then-head-first : goal.loop-head-preserved-then-head-first
+loop-head-preserved-then-head-first g c =
+    let b = c.args.self.now in
+    let i = c.loop-head.invariant in
+    (i.0, omega (arith, i.1), requested_past deadline_of head_of b.now b.lanes c.loop-head.head _ (below_first b.now b.lanes c.in-Some.first c.loop-head.head (sym c.in-Some.ensures) (omega arith)) i.2)
 
 pub offer-requires : goal.offer-requires
 offer-requires g c =

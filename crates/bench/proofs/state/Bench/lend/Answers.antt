@@ -10,7 +10,7 @@ use Rattle.bench.proofs.Gives.{passed_on}
 use Rattle.bench.specs.Model.{world}
 use Rattle.bench.specs.Quiet.{rests}
 use Rattle.bench.specs.Sound.{live_ok, lane_ok, lease_ok}
-use Rattle.bench.proofs.Rests.{every_true, rests_zero, all_later_zero}
+use Rattle.bench.proofs.Rests.{every_true, rests_zero, all_later_lend}
 use Rattle.bench.proofs.Sound.{every_at, every_set_some, live_kept, there_live, buffer_below}
 use Rattle.bench.proofs.Lends.{take_off_limits, take_empty, take_gone, take_out, take_lent, lent_honoured, lendable, lowest}
 use Rattle.bench.proofs.state.Bench.lend.Goals as goal
@@ -48,11 +48,11 @@ live g c =
     let b = c.args.self.now in
     live_kept c.in_ok-lane.lane (every_at lane_ok b.lanes c.args.head c.in_ok-lane.lane b.safe c.in_ok-lane.ensures) (there_live b.now c.in_ok-lane.lane c.args.block (sym c.if-not-is_there.ensures))
 
-pub overflow_add-self : goal.overflow_add-self
-overflow_add-self g c = let k = lendable c.in_ok-lane.lane (live g c) in omega (arith, k.0)
+pub overflow_add-lease : goal.overflow_add-lease
+overflow_add-lease g c = let k = lendable c.in_ok-lane.lane (live g c) in omega (arith, k.0)
 
-pub nonzero_rem-self : goal.nonzero_rem-self
-nonzero_rem-self g c = let k = lendable c.in_ok-lane.lane (live g c) in omega (arith, k.1)
+pub nonzero_rem-lease : goal.nonzero_rem-lease
+nonzero_rem-lease g c = let k = lendable c.in_ok-lane.lane (live g c) in omega (arith, k.1)
 
 pub bounds-lane-block : goal.bounds-lane-block
 bounds-lane-block g c = let k = lendable c.in_ok-lane.lane (live g c) in omega (arith, k.1, k.2)
@@ -70,7 +70,7 @@ invariant_of-self g c =
       safe = b.safe;
       lent = every_set_some lease_ok b.leases c.in_ok-number.number e b.lent (lt-ltb _ 32 (buffer_below l _ own));
       resting = every_true (rests 0) rests_zero b.lanes;
-      unheld = all_later_zero b.now b.lanes (set b.leases c.in_ok-number.number (Some e));
+      unheld = all_later_lend b.now b.lapse c.lease_lapse.result c.min-self.result b.lanes b.leases c.in_ok-number.number e (omega (arith, c.min-self.ensures)) (omega (arith, c.min-self.ensures)) b.unheld c.lease_lapse.ensures;
       sooner = omega arith;
       alive = b.alive;
     }

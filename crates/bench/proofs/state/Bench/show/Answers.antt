@@ -27,7 +27,9 @@ returns-in_err-held g c =
     ∙ sym (ap (λ r. r.1) (show_not_held (world g.D.Disk.meaning c.args.pool.now c.args.self.now) c.args.party c.args.lease (grind (arith, nat_tests)) (ap not c.in_ok-pool.ensures.0) (ap not k.0)))
 
 pub part-requires : goal.part-requires
-part-requires g c = let b = c.args.self.now in ltb-true c.in_ok-held.held.buffer 32 (every_at lease_ok b.leases c.args.lease c.in_ok-held.held b.lent c.in_ok-held.ensures.2)
+part-requires g c =
+    let b = c.args.self.now in
+    omega (arith, ltb-true c.in_ok-held.held.buffer 32 (every_at lease_ok b.leases c.args.lease c.in_ok-held.held b.lent c.in_ok-held.ensures.2))
 
 pub returns : goal.returns
 returns g c =

@@ -1,4 +1,4 @@
-use Rattle.std.proofs.Common.{not, sym, ap, ◌∙◌}
+use Rattle.std.proofs.Common.{not, sym, ap, ◌∙◌, arith}
 use Rattle.std.proofs.lemmas.Bool.{ltb-true}
 use Rattle.refusal.specs.declared.Refusal.TheVariants.{WrongSize, NotHeld}
 use Rattle.history.specs.Bench.{bytes_in}
@@ -24,7 +24,7 @@ returns-in_err-held g c =
 pub part-requires : goal.part-requires
 part-requires g c =
     let b = c.args.self.now in
-    ltb-true c.in_ok-held.held.buffer 32 (every_at lease_ok b.leases c.args.slip.now.numbers.lease c.in_ok-held.held b.lent c.in_ok-held.ensures.2)
+    omega (arith, ltb-true c.in_ok-held.held.buffer 32 (every_at lease_ok b.leases c.args.slip.now.numbers.lease c.in_ok-held.held b.lent c.in_ok-held.ensures.2))
 
 pub returns : goal.returns
 returns g c =
