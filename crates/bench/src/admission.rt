@@ -147,6 +147,7 @@ fn is_in_use(lanes: &[Option<Lane>], leases: &[Option<Lease>], buffer: u8) -> bo
     lanes_use(lanes, buffer) || leases_use(leases, buffer)
 }
 
+// These two by themselves, so that a must-fail edit can take one for the other.
 fn lanes_use(lanes: &[Option<Lane>], buffer: u8) -> bool
     ensures { result ≡ any (lane_uses buffer) lanes.now }
 {

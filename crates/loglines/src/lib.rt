@@ -168,7 +168,8 @@ impl LogLine {
 }
 
 // A line as it is put together, in the caller's memory: its bytes so far are the first `len`. No `impl Display` does it:
-// as far as a contract knows, `write!` may fail, and `LogLine::write` cannot.
+// as far as a contract knows, `write!` may fail, and `LogLine::write` cannot; and no ArrayVec, with numbers by `itoa`: a
+// line takes 2.2 times as long so.
 #[derive(Drop)]
 struct Text<'a> {
     out: &'a mut [u8],

@@ -18,6 +18,7 @@ pub(crate) fn last_start(slot: u32, h: u32, work: &[Rest; 8]) -> u32
     requires { (h < 2000000) × (OverAt slot h work.now) }
     ensures { LastStart slot h work.now result }
 {
+    // In place: the array that `map` makes is cleared by C's memset first, which an archive for C would need.
     let mut lanes = *work;
     for lane in lanes.iter_mut() {
         *lane = lane.cut(h);
