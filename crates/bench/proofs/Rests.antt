@@ -1,7 +1,7 @@
 -- A slot in which nothing happens, and how long none does.
-use Rattle.std.proofs.Common.{◌≡◌, ℕ, zero, suc, ◌+◌, ◌<◌, ◌≤◌, Bool, true, false, cond, not, ◌&&◌, ◌||◌, eqb, ltb, List, [], ◌∷◌, map, length, get_or, set, replicate, Some, None, Option, sym, refl, ap, ◌∙◌, subst, arith}
+use Rattle.std.proofs.Common.{◌≡◌, ℕ, zero, suc, ◌+◌, ◌<◌, ◌≤◌, Bool, true, false, cond, not, ◌&&◌, ◌||◌, eqb, ltb, List, [], ◌∷◌, map, length, get_or, set, replicate, Some, None, Option, inl, inr, sym, refl, ap, ◌∙◌, subst, arith}
 use Rattle.std.proofs.lemmas.List.FromFn.{fill_by_all}
-use Rattle.std.proofs.lemmas.Bool.{and_parts, and_from, false≢true, cond_both}
+use Rattle.std.proofs.lemmas.Bool.{and_parts, and_from, false≢true, cond_both, cases_Bool}
 use Rattle.std.proofs.lemmas.Bool.Decides.{nat_tests}
 use Rattle.schedule.specs.Orders.{deadline}
 use Rattle.history.specs.declared.Event.{Event}
@@ -14,9 +14,9 @@ use Rattle.history.specs.Bench.{any, is_live, running, lane_in, lane_at}
 use Rattle.history.specs.Calls.{moved, on_live, happens, holds_up, changed, aged, all_aged, due, choice, cause_of, how_ended, ends}
 use Rattle.history.proofs.Choosing.{choice_none}
 use Rattle.history.proofs.Histories.{same_at}
-use Rattle.bench.specs.Quiet.{rests, later, all_later, quiet_of, lapse_of}
+use Rattle.bench.specs.Quiet.{rests, later, all_later, placed, quiet_of, lapse_of}
 use Rattle.bench.specs.Sound.{every}
-use Rattle.bench.proofs.Sound.{every_set_none, every_set_some}
+use Rattle.bench.proofs.Sound.{every_set_none, every_set_some, every_from}
 
 -- TESTS OF EVERY ONE
 
@@ -156,6 +156,58 @@ module _ (now q t : ℕ) (ls : List (Option Lane)) (es : List (Option Lease)) (l
       same_changed (λ l. rests q l && every (later now t l) es) (aged (suc now) es)
       (λ l h. quiet_aged l (and_parts (rests q l) _ h).0 (and_parts (rests q l) _ h).1) ls
       (every_both (rests q) (λ l. every (later now t l) es) (λ l. rests q l && every (later now t l) es) (λ l. and_from (rests q l) _) ls rest apart)
+
+-- EACH LANE AT ITS HEAD
+
+pub placed_at : (n : ℕ) (ls : List (Option Lane)) (h : ℕ) (l : Lane) → placed n ls ≡ true → get_or ls h None ≡ Some l → l.order.head ≡ n + h
+placed_at n [] h l e g = grind arith
+placed_at n (None ∷ ls) zero l e g = grind arith
+placed_at n (None ∷ ls) (suc h) l e g = let r = placed_at (suc n) ls h l e g in omega (arith, r)
+placed_at n (Some x ∷ ls) zero l e g = grind (arith, nat_tests)
+placed_at n (Some x ∷ ls) (suc h) l e g = let r = placed_at (suc n) ls h l (and_parts _ _ e).1 g in omega (arith, r)
+
+pub placed_set_some : (n : ℕ) (ls : List (Option Lane)) (h : ℕ) (l : Lane) → placed n ls ≡ true → l.order.head ≡ n + h → placed n (set ls h (Some l)) ≡ true
+placed_set_some n [] h l e own = refl
+placed_set_some n (None ∷ ls) zero l e own = grind (arith, nat_tests)
+placed_set_some n (Some x ∷ ls) zero l e own = grind (arith, nat_tests)
+placed_set_some n (None ∷ ls) (suc h) l e own = placed_set_some (suc n) ls h l e (omega (arith, own))
+placed_set_some n (Some x ∷ ls) (suc h) l e own = and_from _ _ (and_parts _ _ e).0 (placed_set_some (suc n) ls h l (and_parts _ _ e).1 (omega (arith, own)))
+
+pub placed_set_none : (n : ℕ) (ls : List (Option Lane)) (h : ℕ) → placed n ls ≡ true → placed n (set ls h None) ≡ true
+placed_set_none n [] h e = refl
+placed_set_none n (None ∷ ls) zero e = e
+placed_set_none n (Some x ∷ ls) zero e = (and_parts _ _ e).1
+placed_set_none n (None ∷ ls) (suc h) e = placed_set_none (suc n) ls h e
+placed_set_none n (Some x ∷ ls) (suc h) e = and_from _ _ (and_parts _ _ e).0 (placed_set_none (suc n) ls h (and_parts _ _ e).1)
+
+-- what happens to a lane leaves its order
+live_order : (l : Lane) (v : Event) → (on_live l v).order ≡ l.order
+live_order l (FailedAttempt f) = refl
+live_order l BlockRead = refl
+live_order l (BurnEnd held last) = refl
+live_order l Close = refl
+
+pub same_order : (l : Lane) (v : Event) → (happens l v).order ≡ l.order
+same_order l v = cond_both (is_live l.stage) (on_live l v) l (λ x. x.order ≡ l.order) (λ _. live_order l v) (λ _. refl)
+
+placed_changed : (f : Lane → Lane) → ((l : Lane) → (f l).order ≡ l.order) → (n : ℕ) (ls : List (Option Lane)) → placed n ls ≡ true → placed n (map (changed f) ls) ≡ true
+placed_changed f k n [] e = refl
+placed_changed f k n (None ∷ ls) e = placed_changed f k (suc n) ls e
+placed_changed f k n (Some l ∷ ls) e = and_from _ _ (ap (λ o. eqb o.head n) (k l) ∙ (and_parts _ _ e).0) (placed_changed f k (suc n) ls (and_parts _ _ e).1)
+
+pub placed_aged : (n t : ℕ) (ls ls' : List (Option Lane)) (es : List (Option Lease)) → ls' ≡ all_aged t es ls → placed n ls ≡ true → placed n ls' ≡ true
+placed_aged n t ls ls' es is e =
+    subst (λ xs. placed n xs ≡ true) (sym is) (placed_changed (aged t es) (λ l. same_order l (BurnEnd (any (holds_up t l) es) (eqb (deadline l.order.timing l.order.timing.count) t))) n ls e)
+
+-- a lease is apart from every lane where it is apart from the one at its head
+pub lent_apart : (now own : ℕ) (ls : List (Option Lane)) (h : ℕ) (l : Lane) (e : Lease) → placed 0 ls ≡ true → get_or ls h None ≡ Some l → e.head ≡ h → later now own l e ≡ true → every (λ x. later now own x e) ls ≡ true
+lent_apart now own ls h l e p at is own_later = every_from (λ x. later now own x e) ls each
+  where
+    each : (k : ℕ) (x : Lane) → get_or ls k None ≡ Some x → later now own x e ≡ true
+    each k x g = elim (cases_Bool (eqb k h)) [
+      | inl q ↦ (let same : k ≡ h = grind (arith, nat_tests) in let one : Some x ≡ Some l = sym g ∙ (ap (λ i. get_or ls i None) same ∙ at) in let lane : x ≡ l = cc in subst (λ y. later now own y e ≡ true) (sym lane) own_later)
+      | inr q ↦ (let other = placed_at 0 ls k x p g in grind (arith, nat_tests))
+    ]
 
 -- CHANGES OF ONE LANE OR LEASE
 

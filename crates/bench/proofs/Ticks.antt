@@ -32,10 +32,10 @@ use Rattle.history.specs.Requests.{Requested}
 use Rattle.history.proofs.Checks.{passes}
 use Rattle.history.proofs.Choosing.{deadline_up, chosen, Chosen, Idle as NoneDue}
 use Rattle.history.proofs.Requests.{requested_first, requested_nothing}
-use Rattle.bench.specs.Quiet.{later, all_later, settled}
+use Rattle.bench.specs.Quiet.{later, all_later, placed, settled}
 use Rattle.bench.specs.Sound.{every, lane_ok, live_ok}
 use Rattle.bench.specs.Ticks.{request_before, deadline_of, head_of, chosen_by, fault_in, failures_in, may_end, readable, FaultAt, ToldFrom, Attempted, Alive, EndedSince}
-use Rattle.bench.proofs.Rests.{every_changed, all_later_sooner, all_later_lane, later_happens}
+use Rattle.bench.proofs.Rests.{every_changed, all_later_sooner, all_later_lane, later_happens, same_order, placed_at, placed_set_some}
 use Rattle.bench.proofs.Sound.{every_at, every_set_some, live_kept, buffer_below}
 
 -- what stands on a head is sound
@@ -352,6 +352,13 @@ attempted_later now t ls es h l m pool r m' l' pool' is a e =
     let own = every_at (λ x. every (later (now + 1) t x) es) ls h l up is in
     all_later_lane (now + 1) t ls es h l' up (subst (λ x. every (later (now + 1) t x) es ≡ true) (sym a.lane) (cond_both (readable m l) (happens l BlockRead) (happens l (FailedAttempt (fault_in r))) (λ x. every (later (now + 1) t x) es ≡ true)
     (λ _. later_happens (now + 1) t l es BlockRead own) (λ _. later_happens (now + 1) t l es (FailedAttempt (fault_in r)) own)))
+
+pub attempted_placed : (ls : List (Option Lane)) (h : ℕ) (l : Lane) (m : List Block) (pool : List ℕ) (r : Ticked) (m' : List Block) (l' : Lane) (pool' : List ℕ) → get_or ls h None ≡ Some l
+    → Attempted m l h pool r m' l' pool' → placed 0 ls ≡ true → placed 0 (set ls h (Some l')) ≡ true
+attempted_placed ls h l m pool r m' l' pool' is a e =
+    let kept : l'.order ≡ l.order = subst (λ x. x.order ≡ l.order) (sym a.lane) (cond_both (readable m l) (happens l BlockRead) (happens l (FailedAttempt (fault_in r))) (λ x. x.order ≡ l.order)
+    (λ _. same_order l BlockRead) (λ _. same_order l (FailedAttempt (fault_in r)))) in
+    placed_set_some 0 ls h l' e (ap (λ o. o.head) kept ∙ placed_at 0 ls h l e is)
 
 -- BURNS THAT DO NOT END
 

@@ -1,5 +1,5 @@
 -- What a bench keeps so that a slot in which nothing happens costs next to nothing.
-use Rattle.std.specs.Prelude.{ℕ, suc, ◌+◌, Bool, cond, not, ◌&&◌, ◌||◌, List, Some, None, Option, min, ◌==◌, nat_le, nat_lt}
+use Rattle.std.specs.Prelude.{ℕ, suc, ◌+◌, Bool, cond, not, ◌&&◌, ◌||◌, true, List, [], ◌∷◌, Some, None, Option, min, ◌==◌, nat_le, nat_lt}
 use Rattle.schedule.specs.Orders.{deadline, release}
 use Rattle.history.specs.Bench.{World, is_live, burn_end}
 use Rattle.history.specs.Calls.{all_aged, with_lanes}
@@ -17,6 +17,12 @@ later now t l e = not (is_live l.stage) || (not (e.head == l.order.head && e.adm
 
 abbrev pub all_later : ℕ → ℕ → List (Option Lane) → List (Option Lease) → Bool
 all_later now t ls es = every (λ l. every (later now t l) es) ls
+
+-- each lane lies at the place of its head, where the first of them is h's
+abbrev pub placed : ℕ → List (Option Lane) → Bool
+placed h [] = true
+placed h (None ∷ ls) = placed (suc h) ls
+placed h (Some l ∷ ls) = l.order.head == h && placed (suc h) ls
 
 -- the lanes as they are at the slot that the bench is at
 abbrev pub settled : World → World

@@ -5,7 +5,7 @@ ghost use Rattle.history.specs.Calls.{answered, reported, leased, lease_told, ho
 ghost use Rattle.bench.specs.Model.{world};
 
 use crate::lane::step;
-use crate::quiet::{any_live, lease_lapse};
+use crate::quiet::any_live;
 use crate::state::Bench;
 use disk::Disk;
 use history::{Event, Lane, Lease, Report, Stage};
@@ -87,7 +87,8 @@ impl<D: Disk> Bench<D> {
             buffer: lane.buffers[(block % lane.order.timing.depth) as usize],
             slip,
         };
-        self.lapse = self.lapse.min(lease_lapse(self.now, &self.lanes, &lease));
+        // The lease holds up no lane but this one, which alone has its head.
+        self.lapse = self.lapse.min(lane.order.timing.deadline(block + 1));
         // The next tick works it out anew.
         self.quiet = 0;
         self.leases[number] = Some(lease);

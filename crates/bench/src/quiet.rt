@@ -25,17 +25,11 @@ pub(crate) fn next_lapse(slot: u32, lanes: &[Option<Lane>], leases: &[Option<Lea
     least(lanes, |lane| lane_lapse(slot, lane, leases))
 }
 
-// The same of one lane, and of one lease.
+// The same of one lane.
 pub(crate) fn lane_lapse(slot: u32, lane: &Lane, leases: &[Option<Lease>]) -> u64
     ensures { every (later slot result lane.now) leases.now ≡ true }
 {
     least(leases, |lease| lapse_of(slot, lane, lease))
-}
-
-pub(crate) fn lease_lapse(slot: u32, lanes: &[Option<Lane>], lease: &Lease) -> u64
-    ensures { every (λ l. later slot result l lease.now) lanes.now ≡ true }
-{
-    least(lanes, |lane| lapse_of(slot, lane, lease))
 }
 
 // The least of the slots that `of` gives of those that are there.

@@ -3,7 +3,7 @@
 ghost use Rattle.std.specs.Prelude.{◌≡◌, ◌≤◌, true};
 ghost use Rattle.history.specs.Bench.{running};
 ghost use Rattle.bench.specs.Sound.{every, lane_ok, lease_ok};
-ghost use Rattle.bench.specs.Quiet.{rests, all_later};
+ghost use Rattle.bench.specs.Quiet.{rests, all_later, placed};
 
 use history::{Lane, Lease};
 
@@ -29,6 +29,7 @@ pub struct Bench<D> {
     ghost failed: { failures ≤ attempts },
     ghost safe: { every lane_ok lanes ≡ true },
     ghost lent: { every lease_ok leases ≡ true },
+    ghost heads: { placed 0 lanes ≡ true },
     ghost resting: { every (rests quiet) lanes ≡ true },
     ghost unheld: { all_later now lapse lanes leases ≡ true },
     ghost sooner: { quiet ≤ lapse },

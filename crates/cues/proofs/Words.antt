@@ -1,11 +1,11 @@
 -- Words and digits, byte by byte.
-use Rattle.std.specs.Prelude.{position, MatchOption, ◌&&◌}
-use Rattle.std.specs.List.{position_or_len, list_all}
-use Rattle.std.proofs.Common.{lit<, ◌*◌, ◌^◌, fold, not, Option, Some, None, ltb, ◌≡◌, ℕ, zero, suc, ◌+◌, ◌-◌, ◌<◌, ◌≤◌, Bool, true, false, cond, eqb, ◌⊎◌, List, [], ◌∷◌, length, get_or, take, take_all, sym, refl, ap, ◌∙◌, arith}
+use Rattle.std.specs.Prelude.{position, MatchOption}
+use Rattle.std.specs.List.{position_or_len}
+use Rattle.std.proofs.Common.{◌*◌, fold, not, Option, Some, None, ltb, ◌≡◌, ℕ, zero, suc, ◌+◌, ◌-◌, ◌<◌, ◌≤◌, Bool, true, false, cond, eqb, ◌⊎◌, ⊎_elim, List, [], ◌∷◌, length, get_or, take, take_all, sym, refl, ap, ◌∙◌, arith}
 use Rattle.std.specs.Char.{is_ascii_digit}
-use Rattle.std.specs.Str.{all_ascii_digits, IsAscii}
-use Rattle.std.proofs.lemmas.Str.Parse.{IsNumeralModel, numerals_by_fold, tells_all_ascii_digits, digits_value_short}
-use Rattle.std.proofs.lemmas.Bool.{and_parts}
+use Rattle.std.specs.Str.{all_ascii_digits}
+use Rattle.std.proofs.lemmas.Str.Parse.{IsNumeralModel, numerals_by_fold, tells_all_ascii_digits}
+use Rattle.std.proofs.lemmas.Bool.{and_parts, and_from, cases_Bool, both_ways}
 use Rattle.std.proofs.lemmas.Bool.Decides.{nat_tests}
 use Rattle.std.proofs.lemmas.Bool.{ltb-false}
 use Rattle.cues.specs.Words.{front, is_number, number_value}
@@ -31,10 +31,6 @@ front_found mark xs r e = by (position_or_len (λ b. eqb b mark) xs) _ refl (fro
     by at false t f (Some end) q = absurd (cc)
     by at false t f None q = sym (f ∙ take_all at xs (omega (arith, ltb-false)))
 
-module _ (w : List ℕ) where
-  pub number_true : 0 < length w → length w ≤ 7 → ((get_or w 0 0 ≡ 48) × (length w ≤ 1)) ⊎ (get_or w 0 0 ≡ 48 → ⊥) → all_ascii_digits w ≡ true → is_number w ≡ true
-  number_true a b z d = grind (arith, nat_tests)
-
 pub digit_range : (c : ℕ) → is_ascii_digit c ≡ true → (48 ≤ c) × (c ≤ 57)
 digit_range c e = grind (arith, nat_tests)
 
@@ -47,10 +43,13 @@ digit_test (c ∷ cs) (suc i) e h = digit_test cs i (and_parts (is_ascii_digit c
 pub own : IsNumeralModel (λ ds. all_ascii_digits ds ≡ true) number_value
 own = numerals_by_fold _ tells_all_ascii_digits (λ n ds. fold (λ m c. m * 10 + (c - 48)) n ds) (record { empty = λ n. refl; more = λ n c cs h. refl })
 
--- a number has at most 7 bytes, all of them digits
-pub number_parts : (w : List ℕ) → is_number w ≡ true → (all_ascii_digits w ≡ true) × (length w ≤ 7)
-number_parts w e = (grind (arith, nat_tests), grind (arith, nat_tests))
+pub digits_from : (w : List ℕ) → ((i : ℕ) → i < length w → is_ascii_digit (get_or w i 0) ≡ true) → all_ascii_digits w ≡ true
+digits_from [] h = refl
+digits_from (c ∷ cs) h = and_from (is_ascii_digit c) (all_ascii_digits cs) (h 0 (omega arith)) (digits_from cs (λ i l. h (suc i) (omega arith)))
 
-pub digits_all : (w : List ℕ) → list_all is_ascii_digit w ≡ all_ascii_digits w
-digits_all [] = refl
-digits_all (c ∷ cs) = ap (λ (b : Bool). is_ascii_digit c && b) (digits_all cs)
+module _ (w : List ℕ) where
+  pub number_true : 0 < length w → length w ≤ 7 → ((get_or w 0 0 ≡ 48) × (length w ≤ 1)) ⊎ (get_or w 0 0 ≡ 48 → ⊥) → all_ascii_digits w ≡ true → is_number w ≡ true
+  number_true a b z d = grind (arith, nat_tests)
+
+  pub number_false : (i : ℕ) → i < length w → is_ascii_digit (get_or w i 0) ≡ false → is_number w ≡ false
+  number_false i h e = ⊎_elim (λ d. absurd (both_ways (is_ascii_digit (get_or w i 0)) e (digit_test w i d h))) (λ d. grind (arith, nat_tests)) (cases_Bool (all_ascii_digits w))

@@ -1,7 +1,6 @@
 // The words of a line, which single spaces part. A token borrows its word from the line and knows its place there, the
 // offset of the word's first byte.
 ghost use Rattle.std.specs.Prelude.{◌≡◌, false, true, length, drop, MatchOption};
-ghost use Rattle.std.specs.Str.{all_ascii_digits};
 ghost use Rattle.cues.specs.Tokens.{Reads, Tells, token_word};
 ghost use Rattle.cues.specs.Words.{front, is_number, number_value, word_of, neither};
 
@@ -67,29 +66,23 @@ pub(crate) fn front(bytes: &[u8], mark: u8) -> &[u8]
     }
 }
 
-// The number that a word writes. Its digits are summed in a loop: by `from_utf8` and `parse` a cue takes eight times as
-// long to read.
+// The number that a word writes. One loop tests its digits and sums them: by `from_utf8` and `parse` a cue takes eight
+// times as long to read.
 fn number(word: &[u8]) -> Option<u32>
     ensures { MatchOption result (is_number word.now ≡ false) (λ n. (is_number word.now ≡ true) × (n ≡ number_value word.now)) }
 {
-    if !is_number(word) {
+    if word.is_empty() || word.len() > 7 {
+        return None;
+    }
+    if word[0] == b'0' && word.len() > 1 {
         return None;
     }
     let mut value: u32 = 0;
     for digit in word {
+        if !digit.is_ascii_digit() {
+            return None;
+        }
         value = value * 10 + (*digit - b'0') as u32;
     }
     Some(value)
-}
-
-fn is_number(word: &[u8]) -> bool
-    ensures { result ≡ is_number word.now }
-{
-    !word.is_empty() && word.len() <= 7 && (word[0] != b'0' || word.len() == 1) && are_digits(word)
-}
-
-fn are_digits(word: &[u8]) -> bool
-    ensures { result ≡ all_ascii_digits word.now }
-{
-    word.iter().all(|byte| byte.is_ascii_digit())
 }

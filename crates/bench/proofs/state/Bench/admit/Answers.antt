@@ -7,7 +7,7 @@ use Rattle.history.specs.declared.Stage.TheVariants.{Live}
 use Rattle.bench.specs.Model.{world}
 use Rattle.bench.specs.Quiet.{rests}
 use Rattle.bench.specs.Sound.{lane_ok}
-use Rattle.bench.proofs.Rests.{every_true, rests_zero, all_later_admit, running_set}
+use Rattle.bench.proofs.Rests.{every_true, rests_zero, all_later_admit, running_set, placed_set_some}
 use Rattle.bench.proofs.Sound.{every_set_some}
 use Rattle.bench.proofs.Admits.{works_fewer, new_lane_ok, new_lane_is, admit_taken, admit_past, admit_off_disk, admit_pool_short, admit_crowded, admit_done}
 use Rattle.bench.proofs.state.Bench.admit.Goals as goal
@@ -73,6 +73,7 @@ invariant_of-self-2 g c =
       failed = b.failed;
       safe = every_set_some lane_ok b.lanes h l b.safe ok;
       lent = b.lent;
+      heads = placed_set_some 0 b.lanes h l b.heads (omega arith);
       resting = every_true (rests 0) rests_zero (set b.lanes h (Some l));
       unheld = all_later_admit b.now b.lapse c.lane_lapse.result c.min-self.result b.lanes b.leases h l (omega (arith, c.min-self.ensures)) (omega (arith, c.min-self.ensures)) b.unheld c.lane_lapse.ensures;
       sooner = omega arith;

@@ -5,7 +5,7 @@ use Rattle.history.specs.Calls.{answered, reported, refuse, close}
 use Rattle.bench.specs.Quiet.{rests}
 use Rattle.bench.specs.Sound.{lane_ok}
 use Rattle.bench.proofs.Gives.{passed_on}
-use Rattle.bench.proofs.Rests.{all_later_close}
+use Rattle.bench.proofs.Rests.{all_later_close, placed_set_none}
 use Rattle.bench.proofs.Sound.{every_at, every_set_none}
 use Rattle.bench.proofs.state.Bench.close.Goals as goal
 
@@ -32,6 +32,7 @@ invariant_of-self g c =
       failed = b.failed;
       safe = every_set_none lane_ok b.lanes c.args.head b.safe;
       lent = b.lent;
+      heads = placed_set_none 0 b.lanes c.args.head b.heads;
       resting = every_set_none (rests b.quiet) b.lanes c.args.head b.resting;
       unheld = all_later_close b.now b.lapse b.lanes b.leases c.args.head b.unheld;
       sooner = b.sooner;

@@ -29,6 +29,7 @@ invariant_of-self g c =
       calls = b.calls;
       failed = b.failed;
       safe = b.safe;
+      heads = b.heads;
       lent = every_set_none lease_ok b.leases c.args.lease b.lent;
       resting = b.resting;
       unheld = all_later_give b.now b.lapse b.lanes b.leases c.args.lease b.unheld;

@@ -1,4 +1,4 @@
-use Rattle.std.proofs.Common.{◌≡◌, ℕ, ◌+◌, true, List, set, Some, sym, ap, ◌∙◌, subst, arith}
+use Rattle.std.proofs.Common.{◌≡◌, ℕ, ◌+◌, true, List, set, Some, sym, refl, ap, ◌∙◌, subst, arith}
 use Rattle.std.specs.Option.{ok_or}
 use Rattle.std.proofs.lemmas.Bool.{lt-ltb}
 use Rattle.std.proofs.lemmas.Bool.Decides.{nat_tests}
@@ -10,7 +10,7 @@ use Rattle.bench.proofs.Gives.{passed_on}
 use Rattle.bench.specs.Model.{world}
 use Rattle.bench.specs.Quiet.{rests}
 use Rattle.bench.specs.Sound.{live_ok, lane_ok, lease_ok}
-use Rattle.bench.proofs.Rests.{every_true, rests_zero, all_later_lend}
+use Rattle.bench.proofs.Rests.{every_true, rests_zero, all_later_lend, lent_apart}
 use Rattle.bench.proofs.Sound.{every_at, every_set_some, live_kept, there_live, buffer_below}
 use Rattle.bench.proofs.Lends.{take_off_limits, take_empty, take_gone, take_out, take_lent, lent_honoured, lendable, lowest}
 use Rattle.bench.proofs.state.Bench.lend.Goals as goal
@@ -68,9 +68,10 @@ invariant_of-self g c =
       calls = b.calls;
       failed = b.failed;
       safe = b.safe;
+      heads = b.heads;
       lent = every_set_some lease_ok b.leases c.in_ok-number.number e b.lent (lt-ltb _ 32 (buffer_below l _ own));
       resting = every_true (rests 0) rests_zero b.lanes;
-      unheld = all_later_lend b.now b.lapse c.lease_lapse.result c.min-self.result b.lanes b.leases c.in_ok-number.number e (omega (arith, c.min-self.ensures)) (omega (arith, c.min-self.ensures)) b.unheld c.lease_lapse.ensures;
+      unheld = all_later_lend b.now b.lapse c.deadline.result c.min-self.result b.lanes b.leases c.in_ok-number.number e (omega (arith, c.min-self.ensures)) (omega (arith, c.min-self.ensures)) b.unheld (lent_apart b.now c.deadline.result b.lanes c.args.head l e b.heads c.in_ok-lane.ensures refl (grind (arith, nat_tests)));
       sooner = omega arith;
       alive = b.alive;
     }

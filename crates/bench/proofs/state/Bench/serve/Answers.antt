@@ -5,7 +5,7 @@ use Rattle.bench.specs.Model.{world}
 use Rattle.bench.specs.Quiet.{rests}
 use Rattle.bench.specs.Ticks.{FaultAt}
 use Rattle.bench.proofs.Rests.{every_true, rests_zero}
-use Rattle.bench.proofs.Ticks.{due_ok, attempted_every, attempted_later, served_read, failures_few}
+use Rattle.bench.proofs.Ticks.{due_ok, attempted_every, attempted_later, attempted_placed, served_read, failures_few}
 use Rattle.bench.proofs.state.Bench.serve.Goals as goal
 
 pub attempt-told-requires : goal.attempt-told-requires
@@ -25,6 +25,7 @@ invariant_of-self g c =
       failed = omega (arith, b.failed, failures_few c.attempt-told.result, c.failures_in.ensures);
       safe = safe;
       lent = b.lent;
+      heads = attempted_placed b.lanes c.args.head c.in-Some.lane _ _ _ _ _ _ c.in-Some.is c.attempt-told.ensures.outcome b.heads;
       resting = every_true (rests 0) rests_zero (set b.lanes c.args.head (Some c.attempt-told.new.lane));
       unheld = apart;
       sooner = omega arith;

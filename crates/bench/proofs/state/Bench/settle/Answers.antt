@@ -3,7 +3,7 @@ use Rattle.history.specs.Calls.{all_aged, with_lanes, with_leases}
 use Rattle.bench.specs.Model.{world}
 use Rattle.bench.specs.Quiet.{all_later, settled}
 use Rattle.bench.specs.Sound.{every, lease_ok}
-use Rattle.bench.proofs.Rests.{all_later_aged, all_unheld}
+use Rattle.bench.proofs.Rests.{all_later_aged, all_unheld, placed_aged}
 use Rattle.bench.proofs.Ticks.{all_aged_ok}
 use Rattle.bench.proofs.state.Bench.settle.Goals as goal
 use Rattle.bench.proofs.state.Bench.settle.Goals.{then-self, else-self}
@@ -25,6 +25,7 @@ invariant_of-self g c =
       failed = b.failed;
       safe = all_aged_ok now b.leases b.lanes _ b.safe both.0;
       lent = subst (λ es. every lease_ok es ≡ true) (sym both.1) b.lent;
+      heads = placed_aged 0 now b.lanes _ b.leases both.0 b.heads;
       resting = c.quiet_until-self.ensures.rests;
       unheld = both.2;
       sooner = c.quiet_until-self.ensures.most;

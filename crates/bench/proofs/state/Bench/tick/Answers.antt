@@ -27,6 +27,7 @@ invariant_of-self g c =
       calls = omega (arith, b.calls);
       failed = b.failed;
       safe = b.safe;
+      heads = b.heads;
       lent = b.lent;
       resting = b.resting;
       unheld = all_later_sooner b.now (b.now + 1) b.lapse b.lanes b.leases (omega arith) b.unheld;
