@@ -162,9 +162,9 @@ module _ (now q t : ℕ) (ls : List (Option Lane)) (es : List (Option Lease)) (l
 pub placed_at : (n : ℕ) (ls : List (Option Lane)) (h : ℕ) (l : Lane) → placed n ls ≡ true → get_or ls h None ≡ Some l → l.order.head ≡ n + h
 placed_at n [] h l e g = grind arith
 placed_at n (None ∷ ls) zero l e g = grind arith
-placed_at n (None ∷ ls) (suc h) l e g = let r = placed_at (suc n) ls h l e g in omega (arith, r)
+placed_at n (None ∷ ls) (suc h) l e g = let r : l.order.head ≡ suc n + h = placed_at (suc n) ls h l e g in omega (arith, r)
 placed_at n (Some x ∷ ls) zero l e g = grind (arith, nat_tests)
-placed_at n (Some x ∷ ls) (suc h) l e g = let r = placed_at (suc n) ls h l (and_parts _ _ e).1 g in omega (arith, r)
+placed_at n (Some x ∷ ls) (suc h) l e g = let r : l.order.head ≡ suc n + h = placed_at (suc n) ls h l (and_parts (eqb x.order.head n) _ e).1 g in omega (arith, r)
 
 pub placed_set_some : (n : ℕ) (ls : List (Option Lane)) (h : ℕ) (l : Lane) → placed n ls ≡ true → l.order.head ≡ n + h → placed n (set ls h (Some l)) ≡ true
 placed_set_some n [] h l e own = refl

@@ -34,7 +34,7 @@ front_found mark xs r e = by (position_or_len (λ b. eqb b mark) xs) _ refl (fro
 pub digit_range : (c : ℕ) → is_ascii_digit c ≡ true → (48 ≤ c) × (c ≤ 57)
 digit_range c e = grind (arith, nat_tests)
 
-pub digit_test : (w : List ℕ) (i : ℕ) → all_ascii_digits w ≡ true → i < length w → is_ascii_digit (get_or w i 0) ≡ true
+digit_test : (w : List ℕ) (i : ℕ) → all_ascii_digits w ≡ true → i < length w → is_ascii_digit (get_or w i 0) ≡ true
 digit_test [] i e h = absurd (omega arith)
 digit_test (c ∷ cs) zero e h = (and_parts (is_ascii_digit c) (all_ascii_digits cs) e).0
 digit_test (c ∷ cs) (suc i) e h = digit_test cs i (and_parts (is_ascii_digit c) (all_ascii_digits cs) e).1 (omega arith)
