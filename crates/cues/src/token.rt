@@ -43,16 +43,16 @@ pub fn token_at<'a>(line: &'a [u8], from: usize) -> Result<Token<'a>, usize>
 fn token_of<'a>(word: &'a [u8], place: usize) -> Option<Token<'a>>
     ensures { MatchOption result (word_of word.now ≡ neither) (λ token. Tells place word.now token) }
 {
-    if let Some(value) = number(word) {
-        return Some(Token::Number { word, place, value });
-    }
     match word {
         [letter] if letter.is_ascii_alphabetic() => Some(Token::Letter {
             word,
             place,
             letter: char::from(*letter),
         }),
-        _ => None,
+        _ => {
+            let value = number(word)?;
+            Some(Token::Number { word, place, value })
+        }
     }
 }
 
